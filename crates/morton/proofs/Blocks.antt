@@ -1,0 +1,41 @@
+-- An aligned block of 4 ^ i codes is an aligned square of side 2 ^ i.
+use mathlib.Core.Path.{_≡_, refl, sym, ap, _∙_}
+use Prim.Native.Nat.{ℕ, zero, suc, _+_, _-_, _*_, _/_, _%_, _^_, _≤_, _<_}
+use native.Mathlib.Nat.{pow-suc, div-div-eq-div-mul, not-suc-le-zero, le-of-suc-le-suc, lt-of-not-le, sub-zero, div-one, suc-sub-suc}
+use native.Mathlib.Omega.{arith}
+use lib.Pow.{pow-add}
+use Rattle.morton.specs.Code.{gatherBits, interleave}
+use Rattle.morton.specs.CommonLevel.{CommonLevel}
+use Rattle.morton.proofs.Codes.{div-suc}
+
+-- codes in one block are in one larger block
+pub block-up : (a b : ℕ) {i j : ℕ} → i ≤ j → a / 4 ^ i ≡ b / 4 ^ i → a / 4 ^ j ≡ b / 4 ^ j
+block-up a b {i} {j} h e =
+    let p : 4 ^ j ≡ 4 ^ i * 4 ^ (j - i) = ap (λ (n : ℕ). 4 ^ n) (omega arith) ∙ pow-add 4 i (j - i) in
+    rw (p, ← div-div-eq-div-mul a, ← div-div-eq-div-mul b, e)
+
+-- a level is known by the block that holds both codes and the one below it that does not
+pub common-level-is : {a b r : ℕ} (i : ℕ) → CommonLevel a b r → a / 4 ^ suc i ≡ b / 4 ^ suc i → (a / 4 ^ i ≡ b / 4 ^ i → ⊥) → r ≡ suc i
+common-level-is {a} {b} {r} i l e f =
+    let lo : i < r = lt-of-not-le (λ q. f (block-up a b q (l .common))) in
+    omega (arith, lo, l .least (suc i) e)
+
+-- the block of a pixel is the pixel x / 2 ^ i, y / 2 ^ i of the coarser panel
+pub block-of-code : (n i x y : ℕ) → i ≤ n → interleave n x y / 4 ^ i ≡ interleave (n - i) (x / 2 ^ i) (y / 2 ^ i)
+unfolding interleave
+block-of-code n zero x y h = rw (sub-zero n, div-one x, div-one y, div-one)
+block-of-code zero (suc i) x y h = absurd (not-suc-le-zero h)
+block-of-code (suc n) (suc i) x y h =
+    let c : ℕ = interleave n (x / 2) (y / 2) in
+    let hi : (4 * c + 2 * (y % 2) + x % 2) / 4 ≡ c = omega arith in
+    rw (div-suc 4 _ i, div-suc 2 x i, div-suc 2 y i, hi, suc-sub-suc n i) (block-of-code n i (x / 2) (y / 2) (le-of-suc-le-suc h))
+
+-- and back: the coordinates of the coarser panel are those of the block
+pub gather-of-block : (n i c : ℕ) → i ≤ n → gatherBits n c / 2 ^ i ≡ gatherBits (n - i) (c / 4 ^ i)
+unfolding gatherBits
+gather-of-block n zero c h = rw (sub-zero n, div-one (gatherBits n c), div-one c)
+gather-of-block zero (suc i) c h = absurd (not-suc-le-zero h)
+gather-of-block (suc n) (suc i) c h =
+    let g : ℕ = gatherBits n (c / 4) in
+    let hi : (2 * g + c % 2) / 2 ≡ g = omega arith in
+    rw (div-suc 2 _ i, div-suc 4 c i, hi, suc-sub-suc n i) (gather-of-block n i (c / 4) (le-of-suc-le-suc h))

@@ -1,0 +1,4 @@
+pub mod Codes
+pub mod Blocks
+mod Fields
+pub mod CommonLevels

@@ -1,0 +1,53 @@
+ghost use mathlib.Core.Path.{_≡_};
+ghost use Prim.Native.Nat.{_<_};
+ghost use Rattle.morton.specs.Code.{spreadBits, gatherBits, codeOf, xOf, yOf};
+ghost use Rattle.morton.specs.Coordinate.{Coordinate};
+ghost use Rattle.morton.specs.CommonLevel.{CommonLevel};
+
+// Each bit of a coordinate moves to twice its place: four halvings of the fields, as 01's last section asks.
+pub fn spread(x: u32) -> u32
+    requires { ⌜ x < 65536 ⌝ }
+    ensures { λ r. ⌜ r ≡ spreadBits 16 x ⌝ }
+{
+    let a = (x | (x << 8)) & 0x00ff_00ff;
+    let b = (a | (a << 4)) & 0x0f0f_0f0f;
+    let c = (b | (b << 2)) & 0x3333_3333;
+    (c | (c << 1)) & 0x5555_5555
+}
+
+// The way back: the bits at even places close up again.
+pub fn gather(code: u32) -> u32
+    ensures { λ r. ⌜ Coordinate (gatherBits 16 code) r ⌝ }
+{
+    let a = code & 0x5555_5555;
+    let b = (a | (a >> 1)) & 0x3333_3333;
+    let c = (b | (b >> 2)) & 0x0f0f_0f0f;
+    let d = (c | (c >> 4)) & 0x00ff_00ff;
+    (d | (d >> 8)) & 0x0000_ffff
+}
+
+pub fn code_of(x: u32, y: u32) -> u32
+    requires { ⌜ (x < 65536) × (y < 65536) ⌝ }
+    ensures { λ r. ⌜ r ≡ codeOf x y ⌝ }
+{
+    spread(x) | (spread(y) << 1)
+}
+
+pub fn x_of(code: u32) -> u32
+    ensures { λ r. ⌜ Coordinate (xOf code) r ⌝ }
+{
+    gather(code)
+}
+
+pub fn y_of(code: u32) -> u32
+    ensures { λ r. ⌜ Coordinate (yOf code) r ⌝ }
+{
+    gather(code >> 1)
+}
+
+// 01: the highest bit in which two codes differ gives the smallest block that holds both.
+pub fn common_level(a: u32, b: u32) -> u32
+    ensures { λ r. ⌜ CommonLevel a b r ⌝ }
+{
+    (32 - u32::leading_zeros(a ^ b) + 1) / 2
+}
