@@ -1,0 +1,36 @@
+-- 01 "Blocks": the elements of a block, gathered from its four quarters.
+use Prim.Native.Nat.{ℕ, zero, suc, _+_, _*_, _^_}
+use mathlib.Core.Bool.{Bool, true, false, cond}
+use lib.Dec.{ltb}
+
+-- elements in ascending order: nothing; a pixel by its code, and what follows it;
+-- a block by its level, its code and its own elements, and what follows it
+pub data Forest : Type 0 where
+  empty : Forest
+  pixel : ℕ → Forest → Forest
+  block : ℕ → ℕ → Forest → Forest → Forest
+
+infixr 50 _⧺_
+abbrev pub _⧺_ : Forest → Forest → Forest
+empty ⧺ g = g
+pixel c f ⧺ g = pixel c (f ⧺ g)
+block i c es f ⧺ g = block i c es (f ⧺ g)
+
+-- the number of elements
+abbrev pub size : Forest → ℕ
+size empty = 0
+size (pixel c f) = suc (size f)
+size (block i c es f) = suc (size f)
+
+-- what a quarter with the elements es gives: fewer than k, those; k or more, itself as one element
+abbrev pub give : ℕ → ℕ → ℕ → Forest → Forest
+give k level code es = cond (ltb (size es) k) es (block level code es empty)
+
+-- the elements of the block of this level and code, where `marked` says which codes are marked
+unfoldable pub gather : (ℕ → Bool) → ℕ → ℕ → ℕ → Forest
+gather marked k zero code = cond (marked code) (pixel code empty) empty
+gather marked k (suc level) code =
+    give k level code (gather marked k level code)
+    ⧺ (give k level (code + 4 ^ level) (gather marked k level (code + 4 ^ level))
+    ⧺ (give k level (code + 2 * 4 ^ level) (gather marked k level (code + 2 * 4 ^ level))
+    ⧺ give k level (code + 3 * 4 ^ level) (gather marked k level (code + 3 * 4 ^ level))))

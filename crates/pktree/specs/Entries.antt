@@ -1,0 +1,17 @@
+-- 01 "The image": the entries of a set are its pixels, at level 0, and its instantiated blocks.
+use Prim.Native.Nat.{ℕ, zero}
+use mathlib.Core.List.{List, [], _∷_, _++_}
+use Rattle.pktree.specs.Elements.{Forest, empty, pixel, block}
+
+pub record Entry : Type 0 where
+  pub level : ℕ
+  pub code : ℕ
+
+abbrev pub entry : ℕ → ℕ → Entry
+entry level code = record { level = level; code = code }
+
+-- each block before what is inside it
+abbrev pub entries : Forest → List Entry
+entries empty = []
+entries (pixel c f) = entry 0 c ∷ entries f
+entries (block i c es f) = entry i c ∷ (entries es ++ entries f)

@@ -1,0 +1,9 @@
+pub mod Lists
+pub mod Panel
+pub mod PixelSet
+pub mod Elements
+pub mod Tree
+pub mod Entries
+pub mod Image
+pub mod Window
+pub mod Samples

@@ -1,0 +1,20 @@
+-- A set of pixels: the strictly ascending list of their codes.
+use Prim.Native.Nat.{ℕ, suc, _≤_}
+use mathlib.Core.Bool.{Bool, true, false, _||_}
+use mathlib.Core.List.{List, [], _∷_}
+use lib.Dec.{eqb}
+use Rattle.pktree.specs.Lists.{Every}
+use Rattle.pktree.specs.Panel.{Panel, OnPanel}
+
+abbrev pub member : List ℕ → ℕ → Bool
+member [] code = false
+member (c ∷ set) code = eqb c code || member set code
+
+-- strictly ascending, and not below `from`
+abbrev pub Ascending : ℕ → List ℕ → Type 0
+Ascending from [] = Unit {0}
+Ascending from (c ∷ set) = (from ≤ c) × Ascending (suc c) set
+
+pub record PixelSet (panel : Panel) (set : List ℕ) : Type 0 where
+  pub ascending : Ascending 0 set
+  pub on-panel : Every (OnPanel panel) set

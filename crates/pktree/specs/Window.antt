@@ -1,0 +1,44 @@
+-- 01 "Calls": which pixels a window has, and which blocks a call opens.
+use Prim.Native.Nat.{ℕ, zero, suc, _+_, _^_}
+use mathlib.Core.Bool.{Bool, true, false, _&&_, _||_}
+use mathlib.Core.List.{List, [], _∷_}
+use lib.Dec.{ltb, leb}
+use lib.ListN.{length}
+use Rattle.morton.specs.Code.{xOf, yOf}
+use Rattle.pktree.specs.Lists.{select}
+use Rattle.pktree.specs.Elements.{Forest}
+use Rattle.pktree.specs.Tree.{BlockOf, blocks}
+
+pub record Window : Type 0 where
+  pub x0 : ℕ
+  pub y0 : ℕ
+  pub x1 : ℕ
+  pub y1 : ℕ
+
+-- both corners included
+abbrev pub inWindow : Window → ℕ → Bool
+inWindow window code =
+    (leb (window .x0) (xOf code) && leb (xOf code) (window .x1)) && (leb (window .y0) (yOf code) && leb (yOf code) (window .y1))
+
+-- the pixels of a set that a window has
+abbrev pub found : Window → List ℕ → List ℕ
+found window set = select (inWindow window) set
+
+-- some code of the n codes from `from` on passes the test
+unfoldable pub someFrom : (ℕ → Bool) → ℕ → ℕ → Bool
+someFrom test zero from = false
+someFrom test (suc n) from = test from || someFrom test n (suc from)
+
+-- some pixel lies in the block and in the window
+abbrev pub sharesPixel : Window → BlockOf → Bool
+sharesPixel window b = someFrom (inWindow window) (4 ^ b .level) (b .code)
+
+abbrev pub holdsPixel : ℕ → BlockOf → Bool
+holdsPixel code b = leb (b .code) code && ltb code (b .code + 4 ^ b .level)
+
+-- 01: the number of blocks that count and list open, and that ask opens
+abbrev pub openedByWindow : Window → Forest → ℕ
+openedByWindow window t = length (select (sharesPixel window) (blocks t))
+
+abbrev pub openedByPixel : ℕ → Forest → ℕ
+openedByPixel code t = length (select (holdsPixel code) (blocks t))
