@@ -60,10 +60,10 @@ wider j l q c h =
     indicator-mono (eqb (c / 4 ^ j) q) (eqb (c / 4 ^ l) (q * 4 ^ j / 4 ^ l))
     (λ e. let p : c / 4 ^ j ≡ q = eqb-true (c / 4 ^ j) q e in eq-eqb (c / 4 ^ l) (q * 4 ^ j / 4 ^ l) (sym (block-of-blockCode j l c h) ∙ ap (λ (m : ℕ). m * 4 ^ j / 4 ^ l) p))
 
-pub countIn-mono : (j l q : ℕ) (f : Forest) → j ≤ l → countIn j q f ≤ countIn l (q * 4 ^ j / 4 ^ l) f
-countIn-mono j l q empty h = omega arith
-countIn-mono j l q (pixel c f) h = omega (arith, wider j l q c h, countIn-mono j l q f h)
-countIn-mono j l q (block i c es f) h = omega (arith, wider j l q c h, countIn-mono j l q f h)
+pub countIn-below : (j l q : ℕ) (f : Forest) → j ≤ l → countIn j q f ≤ countIn l (q * 4 ^ j / 4 ^ l) f
+countIn-below j l q empty h = omega arith
+countIn-below j l q (pixel c f) h = omega (arith, wider j l q c h, countIn-below j l q f h)
+countIn-below j l q (block i c es f) h = omega (arith, wider j l q c h, countIn-below j l q f h)
 
-pub sparse-mono : (k j l : ℕ) (f : Forest) → j ≤ l → Sparse k l f → Sparse k j f
-sparse-mono k j l f h p q = omega (arith, countIn-mono j l q f h, p (q * 4 ^ j / 4 ^ l))
+pub sparse-below : (k j l : ℕ) (f : Forest) → j ≤ l → Sparse k l f → Sparse k j f
+sparse-below k j l f h p q = omega (arith, countIn-below j l q f h, p (q * 4 ^ j / 4 ^ l))

@@ -4,3 +4,12 @@ pub mod Alignment
 pub mod Counting
 pub mod Arranged
 pub mod LocalLaw
+pub mod Sizes
+pub mod Pixels
+pub mod EntryOrder
+pub mod BlockNumber
+pub mod Regroup
+pub mod Edits
+pub mod LocalTest
+pub mod OneChange
+pub mod Images
