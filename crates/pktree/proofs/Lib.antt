@@ -13,3 +13,5 @@ pub mod Edits
 pub mod LocalTest
 pub mod OneChange
 pub mod Images
+pub mod InTree
+pub mod Windows
