@@ -1,0 +1,59 @@
+-- `register::make` meets its contract: the limits and the length are judged before a word is written, and `reset` ensures the empty register.
+use native.Mathlib.Omega.{arith}
+use mathlib.Core.Path.{sym}
+use borrow.Author.Needs.{needs}
+use borrow.Author.Tests.{not-true, not-false}
+use Rattle.store.proofs.Decides.{decided-true, decided-false}
+use Rattle.register.proofs.Makes.{refused-limits, refused-short, made-empty}
+use Rattle.register.proofs.make.Statement.{statement}
+use Rattle.register.proofs.make.Tie as tie
+
+returns : tie.Need-returns
+returns c =
+    let w = c .before .within-limits in
+    let args = c .before .before .before .args in
+    refused-limits (args .m) (args .k) (args .n) (args .store .now) (decided-false (not-true (w .result) (c .if1 .taken)) (w .ensures))
+
+layout-of-requires : tie.Need-layout-of-requires
+layout-of-requires c κs =
+    let w = c .before .within-limits in
+    decided-true (not-false (w .result) (c .if1 .left)) (w .ensures)
+
+returns-2 : tie.Need-returns-2
+returns-2 c =
+    let args = c .before .before .before .before .before .before .args in
+    refused-short (args .m) (args .k) (args .n) (args .store .now)
+    (layout-of-requires (c .before .before .before) (c .before .before .layout-of .lifetimes))
+    (omega (arith, c .if2 .taken, rw (c .before .before .layout-of .ensures .is) at (c .before .store-end .ensures)))
+
+write-sizes-requires : tie.Need-write-sizes-requires
+write-sizes-requires c κs =
+    let d = c .before .before in (
+      layout-of-requires (d .before .before) (d .before .layout-of .lifetimes),
+      omega (arith, c .before .if2 .left, rw (d .before .layout-of .ensures .is) at (d .store-end .ensures)),
+    )
+
+reset-requires : tie.Need-reset-requires
+reset-requires c κs = let w = c .before .before .before .write-sizes in (w .ensures .usable, sym (w .ensures .sizes-are))
+
+returns-3 : tie.Need-returns-3
+returns-3 c =
+    let r = c .before .before in
+    let w = r .before .before .before .before in
+    let args = w .before .before .before .before .before .before .before .before .args in
+    let can = write-sizes-requires (w .before) (w .write-sizes .lifetimes) in
+    made-empty (args .m) (args .k) (args .n) (args .store .now) (w .write-sizes .last .0) (r .reset .last .0) (can .0) (can .1) (w .write-sizes .ensures) (r .reset .ensures)
+
+pub make-spec : {M : Type 1} → statement M
+make-spec =
+    tie.close
+    (tie.spec
+    (λ c κs. search needs)
+    returns
+    layout-of-requires
+    (λ c κs. search needs)
+    returns-2
+    write-sizes-requires
+    reset-requires
+    (λ c. search needs)
+    returns-3)

@@ -1,0 +1,79 @@
+-- All slots but the root's put into the chain, from the last down.
+use Prim.Native.Nat.{ℕ, zero, suc, _+_, _-_, _≤_, _<_}
+use native.Mathlib.Omega.{arith}
+use native.Mathlib.Decide.{ℕ-discrete}
+use mathlib.Core.Path.{_≡_, refl, ap, sym, _∙_}
+use mathlib.Core.List.{List}
+use lib.ListN.{length, take, drop, set}
+use lib.Seq.{take-set-le, take-set-lt, getD-set-same}
+use Rattle.pktree.specs.Lists.{Every}
+use Rattle.store.specs.declared.sizes.Layout.{Layout}
+use Rattle.store.specs.Layout.{LayoutFits, storeEnd}
+use Rattle.store.specs.Slot.{slotPart}
+use Rattle.store.specs.FreeSlots.{noSlot, FreeSlots, occurrences, Released}
+use Rattle.store.specs.Emptied.{numbersFrom, AllFree}
+use Rattle.store.proofs.SlotWrites.{take-less, head-word-set}
+use Rattle.store.proofs.FreeChains.{occurrences-same, occurrences-other, chain-released}
+
+-- of the numbers from `first` on, those before it are none
+pub numbers-before : (s first n : ℕ) → s < first → occurrences s (numbersFrom first n) ≡ 0
+numbers-before s first zero h = refl
+numbers-before s first (suc n) h = occurrences-other s first (numbersFrom (suc first) n) (λ e. omega arith) ∙ numbers-before s (suc first) n (omega arith)
+
+-- each occurs once
+pub numbers-once : (s first n : ℕ) → first ≤ s → s < first + n → occurrences s (numbersFrom first n) ≡ 1
+numbers-once s first zero h l = absurd (omega arith)
+numbers-once s first (suc n) h l = go (ℕ-discrete first s) (numbers-once s (suc first) n)
+  where
+    go : Dec (first ≡ s) → (suc first ≤ s → s < suc first + n → occurrences s (numbersFrom (suc first) n) ≡ 1)
+        → occurrences s (numbersFrom first (suc n)) ≡ 1
+    go (yes e) f = rw e (occurrences-same s (numbersFrom (suc s) n) ∙ ap suc (numbers-before s (suc s) n (omega arith)))
+    go (no ne) f = occurrences-other s first (numbersFrom (suc first) n) ne ∙ f (omega arith) (omega arith)
+
+-- none is past the last
+pub numbers-inside : (first n limit : ℕ) → first + n ≤ limit → Every (λ s. s < limit) (numbersFrom first n)
+numbers-inside first zero limit h = tt
+numbers-inside first (suc n) limit h = (omega arith, numbers-inside (suc first) n limit (omega arith))
+
+-- the slots from `slot` on are in the chain
+pub record FreedFrom (layout : Layout) (slot : ℕ) (before after : List ℕ) : Type 0 where
+  pub long : length after ≡ length before
+  pub head : take 7 after ≡ take 7 before
+  pub root : slotPart (layout .width) after 0 ≡ slotPart (layout .width) before 0
+  pub chain : FreeSlots (layout .width) after (numbersFrom slot (layout .slots - slot))
+  pub past : drop (storeEnd layout) after ≡ drop (storeEnd layout) before
+
+-- a chain that ends at once
+pub none-freed : (layout : Layout) (words : List ℕ) → LayoutFits layout words → FreedFrom layout (layout .slots) (set words 7 noSlot) (set words 7 noSlot)
+none-freed layout words fits =
+    let e : layout .slots - layout .slots ≡ 0 = omega arith in
+    record { long = refl; head = refl; root = refl; chain = rw e (getD-set-same words 7 noSlot 0 (omega (arith, fits .lies))); past = refl }
+
+-- one slot released before the chain of those above it
+pub one-more-freed : (layout : Layout) (slot : ℕ) (before during after : List ℕ) → 1 < slot → slot ≤ layout .slots → FreedFrom layout slot before during
+    → Released (layout .width) (slot - 1) during after → FreedFrom layout (slot - 1) before after
+one-more-freed layout slot before during after low high f r =
+    let n : layout .slots - (slot - 1) ≡ suc (layout .slots - slot) = omega arith in
+    let s : suc (slot - 1) ≡ slot = omega arith in
+    let rest : List ℕ = numbersFrom slot (layout .slots - slot) in
+    let out : occurrences (slot - 1) rest ≡ 0 = numbers-before (slot - 1) slot (layout .slots - slot) (omega arith) in
+    record {
+      long = r .long ∙ f .long;
+      head = take-less 7 8 (set during 7 (slot - 1)) after (omega arith) (r .head ∙ sym (take-set-lt 8 during 7 (slot - 1) (omega arith)))
+          ∙ take-set-le 7 during 7 (slot - 1) (omega arith) ∙ f .head;
+      root = r .others 0 (λ z. omega arith) ∙ f .root;
+      chain = rw (n, s) (chain-released (layout .width) (slot - 1) rest during after r out (f .chain));
+      past = r .past (layout .slots) (omega arith) ∙ f .past;
+    }
+
+-- down to slot 1
+pub all-freed : (layout : Layout) (slot : ℕ) (before after : List ℕ) → slot ≡ 1 → FreedFrom layout slot (set before 7 noSlot) after → AllFree layout before after
+all-freed layout slot before after e f =
+    let w = head-word-set (layout .width) before 7 noSlot (omega arith) in
+    record {
+      long = f .long ∙ w .long;
+      head = f .head ∙ take-set-le 7 before 7 noSlot (omega arith);
+      root = f .root ∙ w .slots 0;
+      chain = rw e at (f .chain);
+      past = f .past ∙ w .past (layout .slots);
+    }

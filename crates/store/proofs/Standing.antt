@@ -1,0 +1,234 @@
+-- The laws of reading: what is read stands slot by slot in the words (found), what stands so is read (complete),
+-- and words that agree on the slots of a tree hold the same tree (frame). Other proofs use these, not the reading's text.
+use Prim.Native.Nat.{ℕ, zero, suc, _+_, _*_, _/_, _%_, _^_, _≤_, _<_, max}
+use native.Mathlib.Omega.{arith}
+use mathlib.Core.Path.{_≡_, refl, ap, ap₂, subst, sym, _∙_}
+use mathlib.Core.Bool.{Bool, true, false, _&&_, cond}
+use mathlib.Core.Option.{Option, none, some}
+use mathlib.Core.List.{List, [], _∷_, _++_}
+use lib.Dec.{eqb}
+use lib.ListN.{take, drop, take-append-drop}
+use borrow.Author.Tests.{eq-eqb, eqb-true}
+use Rattle.pktree.specs.Lists.{Every}
+use Rattle.pktree.specs.Elements.{Forest, empty, pixel, block, size}
+use Rattle.pktree.proofs.Arranged.{Arranged}
+use Rattle.store.specs.Slot.{slotPart, levelWord, codeWord, countWord, elementPart}
+use Rattle.store.specs.Placed.{Placed, nothing, pixelThen, blockThen, forestOf, slotsOf}
+use Rattle.store.specs.Reading.{pixelBefore, blockBefore, readElements, blockIn, readSlot}
+
+-- the words of elements
+abbrev pub elementWords : Placed → List ℕ
+elementWords nothing = []
+elementWords (pixelThen c t) = c ∷ 0 ∷ elementWords t
+elementWords (blockThen s i c es t) = c ∷ suc (s + i * 1048576) ∷ elementWords t
+
+-- a slot's words say this level, code and elements
+pub record SlotSays (part : List ℕ) (level code : ℕ) (es : Placed) : Type 0 where
+  pub level-is : levelWord part ≡ level
+  pub code-is : codeWord part ≡ code
+  pub count-is : countWord part ≡ size (forestOf es)
+  pub elements-are : take (2 * size (forestOf es)) (elementPart part) ≡ elementWords es
+
+-- the blocks of t stand in their slots
+abbrev pub Stands : ℕ → List ℕ → Placed → Type 0
+Stands width words nothing = Unit {0}
+Stands width words (pixelThen c t) = Stands width words t
+Stands width words (blockThen s i c es t) = (s < 1048576) × SlotSays (slotPart width words s) i c es × Stands width words es × Stands width words t
+
+-- how many blocks stand around one another
+abbrev pub depth : Forest → ℕ
+depth empty = 0
+depth (pixel c f) = depth f
+depth (block i c es f) = max (suc (depth es)) (depth f)
+
+-- levels fall, so a block of level n has fewer than n blocks around one another inside it
+pub depth-below-level : (k n from to : ℕ) (f : Forest) → 1 ≤ n → Arranged k n from to f → depth f < n
+depth-below-level k n from to empty h a = omega arith
+depth-below-level k n from to (pixel c f) h a = depth-below-level k n (suc c) to f h (a .1)
+depth-below-level k n from to (block i c es f) h a =
+    omega (arith, depth-below-level k i c (c + 4 ^ i) es (a .2) (a .6), depth-below-level k n (c + 4 ^ i) to f h (a .7))
+
+-- from the slots to the reading
+tag-level : (s i : ℕ) → s < 1048576 → (s + i * 1048576) / 1048576 ≡ i
+tag-level s i h = omega arith
+
+tag-slot : (s i : ℕ) → s < 1048576 → (s + i * 1048576) % 1048576 ≡ s
+tag-slot s i h = omega arith
+
+slot-is-read : (read : ℕ → Option Placed) (s : ℕ) (part : List ℕ) (i c : ℕ) (es : Placed) → SlotSays part i c es
+    → ((rest : List ℕ) → readElements read (size (forestOf es)) (elementWords es ++ rest) ≡ some es)
+    → blockIn s part (readElements read (countWord part) (elementPart part)) ≡ some (blockThen s i c es nothing)
+slot-is-read read s part i c es h g =
+    let n : ℕ = size (forestOf es) in
+    let d : elementPart part ≡ elementWords es ++ drop (2 * n) (elementPart part) =
+    sym (take-append-drop (2 * n) (elementPart part)) ∙ ap (λ (a : List ℕ). a ++ drop (2 * n) (elementPart part)) (h .elements-are) in
+    let e : readElements read (countWord part) (elementPart part) ≡ some es =
+    ap₂ (readElements read) (h .count-is) d ∙ g (drop (2 * n) (elementPart part)) in
+    rw (e, h .level-is, h .code-is)
+
+block-is-read : (s i c : ℕ) (es t : Placed) → blockBefore i c (some (blockThen s i c es nothing)) (some t) ≡ some (blockThen s i c es t)
+block-is-read s i c es t = rw (eq-eqb i i refl, eq-eqb c c refl)
+
+pub complete : (width : ℕ) (words : List ℕ) (d : ℕ) (t : Placed) (rest : List ℕ) → Stands width words t → depth (forestOf t) ≤ d
+    → readElements (readSlot width words d) (size (forestOf t)) (elementWords t ++ rest) ≡ some t
+unfolding readSlot
+complete width words d nothing rest h b = refl
+complete width words d (pixelThen c t) rest h b = ap (pixelBefore c) (complete width words d t rest h b)
+complete width words zero (blockThen s i c es t) rest h b = absurd (omega arith)
+complete width words (suc d) (blockThen s i c es t) rest h b =
+    rw (tag-level s i (h .0), tag-slot s i (h .0))
+    (ap₂ (blockBefore i c)
+    (slot-is-read (readSlot width words d) s (slotPart width words s) i c es (h .1) (λ u. complete width words d es u (h .2) (omega arith)))
+    (complete width words (suc d) t rest (h .3) (omega arith))
+    ∙ block-is-read s i c es t)
+
+-- one block, as the root is
+pub complete-slot : (width : ℕ) (words : List ℕ) (d s i c : ℕ) (es : Placed) → SlotSays (slotPart width words s) i c es → Stands width words es
+    → depth (forestOf es) ≤ d → readSlot width words (suc d) s ≡ some (blockThen s i c es nothing)
+unfolding readSlot
+complete-slot width words d s i c es h g b = slot-is-read (readSlot width words d) s (slotPart width words s) i c es h (λ u. complete width words d es u g b)
+
+-- from the reading to the slots
+impossible : {A : Type 0} → _≡_ {A = ℕ} 0 1 → A
+impossible z = absurd (omega arith)
+
+-- what a slot that can be read holds
+pub record FoundSlot (width : ℕ) (words : List ℕ) (d s : ℕ) (u : Placed) : Type 0 where
+  pub level : ℕ
+  pub code : ℕ
+  pub elements : Placed
+  pub is : u ≡ blockThen s level code elements nothing
+  pub says : SlotSays (slotPart width words s) level code elements
+  pub stands : Stands width words elements
+  pub shallow : suc (depth (forestOf elements)) ≤ d
+
+record FoundElements (width : ℕ) (words : List ℕ) (d n : ℕ) (ws : List ℕ) (t : Placed) : Type 0 where
+  count : size (forestOf t) ≡ n
+  names : take (2 * n) ws ≡ elementWords t
+  stands : Stands width words t
+  shallow : depth (forestOf t) ≤ d
+
+two-more : (n a v : ℕ) (ws : List ℕ) → take (2 * suc n) (a ∷ v ∷ ws) ≡ a ∷ v ∷ take (2 * n) ws
+two-more n a v ws = let e : 2 * suc n ≡ suc (suc (2 * n)) = omega arith in rw e
+
+tag-again : (tag : ℕ) → suc (tag % 1048576 + tag / 1048576 * 1048576) ≡ suc tag
+tag-again tag = omega arith
+
+-- an element whose block is refused for its header would read as nothing
+header-agrees : (i c level code : ℕ) (b : Bool) (x t : Placed) → (eqb i level && eqb c code) ≡ b → cond b (some x) none ≡ some t
+    → (i ≡ level) × (c ≡ code) × (x ≡ t)
+header-agrees i c level code true x t e f = go (eqb i level) refl (eqb c code) refl
+  where
+    go : (p : Bool) → eqb i level ≡ p → (q : Bool) → eqb c code ≡ q → (i ≡ level) × (c ≡ code) × (x ≡ t)
+    go true p true q = (eqb-true i level p, eqb-true c code q, (cc))
+    go true p false q = impossible (cc)
+    go false p true q = impossible (cc)
+    go false p false q = impossible (cc)
+header-agrees i c level code false x t e f = impossible (cc)
+
+module _ (width : ℕ) (words : List ℕ) (d : ℕ) (one : (s : ℕ) (u : Placed) → readSlot width words d s ≡ some u → FoundSlot width words d s u) where
+  found-elements : (n : ℕ) (ws : List ℕ) (t : Placed) → readElements (readSlot width words d) n ws ≡ some t → FoundElements width words d n ws t
+  found-elements zero ws t e =
+      let z : nothing ≡ t = cc in
+      subst (λ (u : Placed). FoundElements width words d 0 ws u) z (record { count = refl; names = refl; stands = tt; shallow = omega arith })
+  found-elements (suc n) [] t e = impossible (cc)
+  found-elements (suc n) (a ∷ []) t e = impossible (cc)
+  found-elements (suc n) (c ∷ zero ∷ ws) t e = go (readElements (readSlot width words d) n ws) refl (found-elements n ws)
+    where
+      go : (o : Option Placed) → readElements (readSlot width words d) n ws ≡ o
+          → ((u : Placed) → readElements (readSlot width words d) n ws ≡ some u → FoundElements width words d n ws u)
+          → FoundElements width words d (suc n) (c ∷ 0 ∷ ws) t
+      go none q ih = impossible (cc)
+      go (some u) q ih =
+          let z : pixelThen c u ≡ t = cc in
+          let r = ih u q in
+          subst (λ (x : Placed). FoundElements width words d (suc n) (c ∷ 0 ∷ ws) x) z
+          (record {
+            count = ap suc (r .count);
+            names = two-more n c 0 ws ∙ ap (λ (l : List ℕ). c ∷ 0 ∷ l) (r .names);
+            stands = r .stands;
+            shallow = r .shallow;
+          })
+  found-elements (suc n) (c ∷ suc tag ∷ ws) t e =
+      go (readSlot width words d (tag % 1048576)) refl (readElements (readSlot width words d) n ws) refl (found-elements n ws)
+    where
+      go : (p : Option Placed) → readSlot width words d (tag % 1048576) ≡ p → (o : Option Placed) → readElements (readSlot width words d) n ws ≡ o
+          → ((u : Placed) → readElements (readSlot width words d) n ws ≡ some u → FoundElements width words d n ws u)
+          → FoundElements width words d (suc n) (c ∷ suc tag ∷ ws) t
+      go none y o q ih = impossible (cc)
+      go (some nothing) y o q ih = impossible (cc)
+      go (some (pixelThen b x)) y o q ih = impossible (cc)
+      go (some (blockThen s i b es x)) y none q ih = impossible (cc)
+      go (some (blockThen s i b es x)) y (some u) q ih =
+          let f = one (tag % 1048576) (blockThen s i b es x) y in
+          let r = ih u q in
+          let z : cond (eqb i (tag / 1048576) && eqb b c) (some (blockThen s i b es u)) none ≡ some t = cc in
+          let (ei, ec, et) = header-agrees i b (tag / 1048576) c _ (blockThen s i b es u) t refl z in
+          let g : blockThen (tag % 1048576) (tag / 1048576) c (f .elements) u ≡ t = cc (f .is) in
+          let gi : f .level ≡ tag / 1048576 = cc (f .is) in
+          let gc : f .code ≡ c = cc (f .is) in
+          subst (λ (v : Placed). FoundElements width words d (suc n) (c ∷ suc tag ∷ ws) v) g
+          (record {
+            count = ap suc (r .count);
+            names = two-more n c (suc tag) ws ∙ ap₂ (λ (v : ℕ) (l : List ℕ). c ∷ v ∷ l) (sym (tag-again tag)) (r .names);
+            stands = (
+              omega arith,
+              subst (λ (v : ℕ). SlotSays (slotPart width words (tag % 1048576)) (tag / 1048576) v (f .elements)) gc
+                  (subst (λ (v : ℕ). SlotSays (slotPart width words (tag % 1048576)) v (f .code) (f .elements)) gi (f .says)),
+              f .stands,
+              r .stands,
+            );
+            shallow = omega (arith, f .shallow, r .shallow);
+          })
+
+pub found : (width : ℕ) (words : List ℕ) (d s : ℕ) (u : Placed) → readSlot width words d s ≡ some u → FoundSlot width words d s u
+unfolding readSlot
+found width words zero s u e = impossible (cc)
+found width words (suc d) s u e =
+    go (readElements (readSlot width words d) (countWord (slotPart width words s)) (elementPart (slotPart width words s))) refl
+    (found-elements width words d (found width words d))
+  where
+    part : List ℕ
+    part = slotPart width words s
+
+    go : (o : Option Placed) → readElements (readSlot width words d) (countWord part) (elementPart part) ≡ o
+        → ((n : ℕ) (ws : List ℕ) (t : Placed) → readElements (readSlot width words d) n ws ≡ some t → FoundElements width words d n ws t)
+        → FoundSlot width words (suc d) s u
+    go none q g = impossible (cc)
+    go (some es) q g =
+        let r = g (countWord part) (elementPart part) es q in
+        let z : u ≡ blockThen s (levelWord part) (codeWord part) es nothing = cc in
+        record {
+          level = levelWord part;
+          code = codeWord part;
+          elements = es;
+          is = z;
+          says = record {
+            level-is = refl;
+            code-is = refl;
+            count-is = sym (r .count);
+            elements-are = subst (λ (n : ℕ). take (2 * n) (elementPart part) ≡ elementWords es) (sym (r .count)) (r .names);
+          };
+          stands = r .stands;
+          shallow = omega (arith, r .shallow);
+        }
+
+-- words that agree on the slots of a tree
+pub every-left : (P : ℕ → Type 0) (a b : List ℕ) → Every P (a ++ b) → Every P a
+every-left P [] b h = tt
+every-left P (x ∷ a) b h = (h .0, every-left P a b (h .1))
+
+pub every-right : (P : ℕ → Type 0) (a b : List ℕ) → Every P (a ++ b) → Every P b
+every-right P [] b h = h
+every-right P (x ∷ a) b h = every-right P a b (h .1)
+
+pub frame : (width : ℕ) (words words′ : List ℕ) (t : Placed) → Every (λ s. slotPart width words s ≡ slotPart width words′ s) (slotsOf t)
+    → Stands width words t → Stands width words′ t
+frame width words words′ nothing e h = tt
+frame width words words′ (pixelThen c t) e h = frame width words words′ t e h
+frame width words words′ (blockThen s i c es t) e h = (
+  h .0,
+  subst (λ (p : List ℕ). SlotSays p i c es) (e .0) (h .1),
+  frame width words words′ es (every-left _ (slotsOf es) (slotsOf t) (e .1)) (h .2),
+  frame width words words′ t (every-right _ (slotsOf es) (slotsOf t) (e .1)) (h .3),
+)

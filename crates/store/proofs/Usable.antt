@@ -1,0 +1,39 @@
+-- A usable store stays usable where words 0 to 3 and the length stay, and its slots lie within it.
+use Prim.Native.Nat.{ℕ, _≤_, _<_}
+use native.Mathlib.Omega.{arith}
+use mathlib.Core.Path.{_≡_, ap, sym, _∙_, subst}
+use mathlib.Core.List.{List}
+use lib.ListN.{length, take}
+use Rattle.store.specs.declared.sizes.Sizes.{Sizes}
+use Rattle.store.specs.declared.sizes.Layout.{Layout}
+use Rattle.store.specs.Sizes.{sizesOf, storeWords, UsableStore}
+use Rattle.store.specs.Layout.{layoutOf, storeEnd, LaidOut, LayoutFits}
+use Rattle.store.specs.Slot.{Within}
+use Rattle.store.proofs.Bounds.{slot-ends}
+use Rattle.store.proofs.SlotWrites.{word-in-front}
+
+-- the sizes are words 1 to 3
+pub sizes-kept : (before after : List ℕ) → take 4 after ≡ take 4 before → sizesOf after ≡ sizesOf before
+sizes-kept before after e =
+    rw (word-in-front 4 1 before after (omega arith) e, word-in-front 4 2 before after (omega arith) e, word-in-front 4 3 before after (omega arith) e)
+
+-- refusal 3 asks for words 0 to 3 and the length only
+pub usable-kept : (before after : List ℕ) → take 4 after ≡ take 4 before → length after ≡ length before → UsableStore before → UsableStore after
+usable-kept before after e long u =
+    let s = sizes-kept before after e in
+    record {
+      long = rw long (u .long);
+      mark = rw (word-in-front 4 0 before after (omega arith) e) (u .mark);
+      valid = rw s (u .valid);
+      enough = subst (λ (z : Sizes). storeWords z ≤ length after) (sym s) (rw long (u .enough));
+    }
+
+-- the formula's words are there
+pub layout-fits : (sizes : Sizes) (layout : Layout) (words : List ℕ) → UsableStore words → sizes ≡ sizesOf words → LaidOut sizes layout
+    → LayoutFits layout words
+layout-fits sizes layout words u e l =
+    record { within = l .within; lies = subst (λ (z : Layout). storeEnd z ≤ length words) (sym (l .is ∙ ap layoutOf e)) (u .enough) }
+
+-- a slot ends before the last one does
+pub slot-within : (layout : Layout) (slot : ℕ) (words : List ℕ) → LayoutFits layout words → slot < layout .slots → Within (layout .width) words slot
+slot-within layout slot words f h = omega (arith, f .lies, slot-ends slot (layout .slots) (layout .width) h)

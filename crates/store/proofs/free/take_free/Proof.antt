@@ -1,0 +1,46 @@
+-- `store::free::take_free` meets its contract: the words that it reads, at the slot's offset, are the slot's level and its next free slot.
+use Prim.Native.Nat.{ℕ, _+_, _<_}
+use native.Mathlib.Omega.{arith}
+use mathlib.Core.Path.{_≡_, refl, sym, _∙_}
+use lib.ListN.{getD}
+use borrow.Author.Needs.{needs}
+use Rattle.store.specs.Slot.{slotPart}
+use Rattle.store.proofs.SlotWrites.{slot-word}
+use Rattle.store.proofs.free.take_free.Statement.{statement}
+use Rattle.store.proofs.free.take_free.Tie as tie
+
+-- a word of the slot that word 7 names
+free-word : (c : tie.After-offset) (i j : ℕ) → i ≡ c .offset .result + j → j < 18
+    → (let a = c .before .before .before .before .before .before .before .args in
+    getD (slotPart (a .layout .width) (a .store .now) (getD (a .store .now) 7 0)) j 0 ≡ getD (a .store .now) i 0)
+free-word c i j e h =
+    let a = c .before .before .before .before .before .before .before .args in
+    let at = rw (c .before .wide2 .ensures) at (c .offset .ensures .is) in
+    slot-word (a .layout .width) (getD (a .store .now) 7 0) (a .store .now) i j (omega arith) (omega arith)
+
+returns-2 : tie.Need-returns-2
+returns-2 c = (refl, λ inside free. c .if2 .taken (sym (free-word (c .before .before) _ 0 (omega arith) (omega arith)) ∙ free))
+
+returns-3 : tie.Need-returns-3
+returns-3 c =
+    let o = c .before .before .before in
+    (refl, omega arith, free-word o _ 0 (omega arith) (omega arith) ∙ c .before .if2 .left, rw (free-word o (o .offset .result + 3) 3 refl (omega arith)))
+
+pub take-free-spec : {M : Type 1} → statement M
+take-free-spec =
+    tie.close
+    (tie.spec
+    (λ c. search needs)
+    (λ c κs. search needs)
+    (λ c. search needs)
+    (λ c κs. search needs)
+    (λ c κs. search needs)
+    (λ c. search needs)
+    (λ c. search needs)
+    returns-2
+    (λ c. search needs)
+    (λ c. search needs)
+    (λ c. search needs)
+    (λ c. search needs)
+    (λ c. search needs)
+    returns-3)

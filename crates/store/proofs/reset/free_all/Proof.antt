@@ -1,0 +1,50 @@
+-- `store::reset::free_all` meets its contract. The loop's invariant: the slots from `slot` on are in the chain, and the rest is as it was.
+use Prim.Native.Nat.{_≤_}
+use native.Mathlib.Omega.{arith}
+use mathlib.Core.Path.{_∙_}
+use lib.ListN.{length-set}
+use borrow.Author.Needs.{needs}
+use Rattle.store.proofs.AllFree.{FreedFrom, none-freed, one-more-freed, all-freed}
+use Rattle.store.proofs.reset.free_all.Statement.{statement}
+use Rattle.store.proofs.reset.free_all.Tie as tie
+
+abbrev Inv-loop : tie.InvT-loop
+Inv-loop store₀ layout slot₀ store slot = (1 ≤ slot) × (slot ≤ layout .slots) × FreedFrom layout slot store₀ store
+
+abbrev μ-loop : tie.MeasureT-loop
+μ-loop store₀ layout slot₀ store slot = slot
+
+loop-holds : tie.Need-loop-holds Inv-loop μ-loop
+loop-holds c = (omega arith, omega arith, none-freed (c .before .args .layout) (c .before .args .store .now) (c .before .pre))
+
+release-requires : tie.Need-release-requires Inv-loop μ-loop
+release-requires c κs =
+    let s = c .before .before .before .before in
+    (record { within = s .pre .within; lies = omega (arith, c .before .before .loop .inv .2 .long, length-set (s .args .store .now) 7 0xFFFFFFFF) }, omega arith)
+
+loop-again : tie.Need-loop-again Inv-loop μ-loop
+loop-again c =
+    let l = c .before .before .before .before .before .loop in
+    let r = c .before .before .release in
+    (omega arith, omega arith, one-more-freed _ (l .slot) _ (l .store) (r .last .0) (omega arith) (omega arith) (l .inv .2) (r .ensures))
+
+same-length : tie.Need-same-length Inv-loop μ-loop
+same-length c = c .before .loop .inv .2 .long ∙ length-set (c .before .before .before .args .store .now) 7 0xFFFFFFFF
+
+returns : tie.Need-returns Inv-loop μ-loop
+returns c = all-freed _ (c .before .loop .slot) (c .before .before .before .args .store .now) _ (omega arith) (c .before .loop .inv .2)
+
+pub free-all-spec : {M : Type 1} → statement M
+free-all-spec =
+    tie.close
+    (tie.spec
+    Inv-loop
+    μ-loop
+    (λ c. search needs)
+    loop-holds
+    (λ c. search needs)
+    release-requires
+    (λ c. search needs)
+    loop-again
+    same-length
+    returns)

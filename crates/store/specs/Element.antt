@@ -1,0 +1,15 @@
+-- 01: an element is either a pixel with its code or a block with its slot.
+-- Two words: the code, and 0 for a pixel or 1 + slot + level * 2 ^ 20 for a block.
+use Prim.Native.Nat.{ℕ, zero, suc, _+_, _*_, _/_, _%_}
+use mathlib.Core.List.{List}
+use lib.ListN.{getD}
+use Rattle.store.specs.declared.elements.Element.{Element}
+use Rattle.store.specs.declared.elements.Element.the-variants.{Pixel, Block}
+
+abbrev pub elementOf : ℕ → ℕ → Element
+elementOf code zero = Pixel code
+elementOf code (suc tag) = Block (tag % 1048576) (tag / 1048576) code
+
+-- element i of a slot's words
+abbrev pub elementAt : List ℕ → ℕ → Element
+elementAt part i = elementOf (getD part (8 + 2 * i) 0) (getD part (8 + 2 * i + 1) 0)

@@ -1,0 +1,31 @@
+-- The empty register.
+use Prim.Native.Nat.{ℕ, zero, suc, _-_}
+use mathlib.Core.Path.{_≡_}
+use mathlib.Core.List.{List, [], _∷_}
+use lib.ListN.{length, take, drop}
+use Rattle.store.specs.declared.sizes.Layout.{Layout}
+use Rattle.store.specs.Sizes.{sizesOf, storeWords}
+use Rattle.store.specs.Layout.{storeEnd}
+use Rattle.store.specs.Slot.{slotPart}
+use Rattle.store.specs.FreeSlots.{FreeSlots}
+use Rattle.store.specs.Sound.{Holds}
+
+-- n numbers from `first` on
+abbrev pub numbersFrom : ℕ → ℕ → List ℕ
+numbersFrom first zero = []
+numbersFrom first (suc n) = first ∷ numbersFrom (suc first) n
+
+-- all slots but the root's are free; the root's words and words 0 to 6 are as they were
+pub record AllFree (layout : Layout) (before after : List ℕ) : Type 0 where
+  pub long : length after ≡ length before
+  pub head : take 7 after ≡ take 7 before
+  pub root : slotPart (layout .width) after 0 ≡ slotPart (layout .width) before 0
+  pub chain : FreeSlots (layout .width) after (numbersFrom 1 (layout .slots - 1))
+  pub past : drop (storeEnd layout) after ≡ drop (storeEnd layout) before
+
+-- the store now holds no pixel; words 0 to 5 and those past the formula are as they were
+pub record Emptied (before after : List ℕ) : Type 0 where
+  pub holds : Holds after []
+  pub long : length after ≡ length before
+  pub head : take 6 after ≡ take 6 before
+  pub past : drop (storeWords (sizesOf before)) after ≡ drop (storeWords (sizesOf before)) before

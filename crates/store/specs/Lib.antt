@@ -1,0 +1,12 @@
+pub mod Decides
+pub mod Sizes
+pub mod Layout
+pub mod Slot
+pub mod Element
+pub mod Splice
+pub mod Opening
+pub mod Placed
+pub mod Reading
+pub mod FreeSlots
+pub mod Sound
+pub mod Emptied

@@ -1,0 +1,39 @@
+-- 01: when a store is sound.
+use Prim.Native.Nat.{ℕ, _≤_, _<_}
+use mathlib.Core.Path.{_≡_}
+use mathlib.Core.Option.{Option, some}
+use mathlib.Core.List.{List, _++_}
+use lib.ListN.{length, getD}
+use Rattle.pktree.specs.Lists.{Every}
+use Rattle.pktree.specs.PixelSet.{member}
+use Rattle.pktree.specs.Elements.{Forest}
+use Rattle.pktree.specs.Tree.{tree, pixels}
+use Rattle.store.specs.Sizes.{panelOf, slotCount, slotWidth, sizesOf, UsableStore}
+use Rattle.store.specs.Placed.{Placed, forestOf, slotsOf}
+use Rattle.store.specs.Reading.{treeOf}
+use Rattle.store.specs.FreeSlots.{FreeSlots, occurrences}
+
+-- every slot is in the tree or free, and only once; none is beyond the last
+pub record SlotsShared (slots : ℕ) (used free : List ℕ) : Type 0 where
+  pub once : (s : ℕ) → s < slots → occurrences s (used ++ free) ≡ 1
+  pub inside : Every (λ s. s < slots) (used ++ free)
+
+-- the store is sound, and this is its tree
+pub record Sound (words : List ℕ) (placed : Placed) : Type 0 where
+  pub usable : UsableStore words
+  pub reads : treeOf words ≡ some placed
+  -- the tree of instantiated blocks of its own pixels
+  pub is-tree : forestOf placed ≡ tree (panelOf (sizesOf words)) (member (pixels (forestOf placed)))
+  pub fits : length (pixels (forestOf placed)) ≤ getD words 3 0
+  -- unused slots are all available again
+  pub free : List ℕ
+  pub chain : FreeSlots (slotWidth (getD words 2 0)) words free
+  pub shared : SlotsShared (slotCount (getD words 2 0) (getD words 3 0)) (slotsOf placed) free
+  -- word 6 is the number of pixels
+  pub counted : getD words 6 0 ≡ length (pixels (forestOf placed))
+
+-- a sound store that holds this set of pixels
+pub record Holds (words set : List ℕ) : Type 0 where
+  pub placed : Placed
+  pub sound : Sound words placed
+  pub set-is : pixels (forestOf placed) ≡ set

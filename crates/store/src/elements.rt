@@ -1,0 +1,86 @@
+ghost use Prim.Native.Nat.{_+_, _*_, _≤_, _<_};
+ghost use mathlib.Core.Path.{_≡_};
+ghost use lib.ListN.{length};
+ghost use lib.Seq.{paste};
+ghost use Rattle.store.specs.Element.{elementAt};
+ghost use Rattle.store.specs.Splice.{PlaceOf, CanSplice, Spliced, withHeader};
+use crate::slots::wide;
+
+// 01: an element is either a pixel with its code or a block with its slot.
+pub enum Element {
+    Pixel(u32),
+    Block { slot: u32, level: u32, code: u32 },
+}
+
+pub fn element_at(part: &[u32], i: usize) -> Element
+    requires { ⌜ 8 + 2 * i + 2 ≤ length (now part) ⌝ }
+    ensures { λ r. ⌜ r ≡ elementAt (now (part .entry)) i ⌝ }
+{
+    let at = 8 + 2 * i;
+    let code = part[at];
+    let tag = part[at + 1];
+    if tag == 0 {
+        Element::Pixel(code)
+    } else {
+        let rest = tag - 1;
+        Element::Block {
+            slot: rest % 1048576,
+            level: rest / 1048576,
+            code,
+        }
+    }
+}
+
+// How many of the first elements have a code up to the given one, where they ascend: a binary search.
+pub fn find_place(part: &[u32], count: usize, code: u32) -> usize
+    requires { ⌜ (8 + 2 * count ≤ length (now part)) × (count ≤ 100) ⌝ }
+    ensures { λ r. ⌜ PlaceOf (now (part .entry)) count code r ⌝ }
+{
+    let mut low: usize = 0;
+    let mut high = count;
+    while low < high {
+        let middle = (low + high) / 2;
+        if part[8 + 2 * middle] <= code {
+            low = middle + 1;
+        } else {
+            high = middle;
+        }
+    }
+    low
+}
+
+pub fn copy_words(target: &mut [u32], at: usize, source: &[u32], count: usize)
+    requires { ⌜ (at + count ≤ length (now target)) × (count ≤ length (now source)) ⌝ }
+    ensures { λ _. ⌜ now (target .exit) ≡ paste (now (target .entry)) at (now (source .entry)) count ⌝ }
+{
+    let mut j = 0;
+    while j < count {
+        target[at + j] = source[j];
+        j += 1;
+    }
+}
+
+// In one slot, `removed` elements from `place` on give way to the first `inserted` elements of `source`.
+pub fn splice(part: &mut [u32], place: usize, removed: usize, source: &[u32], inserted: usize)
+    requires { ⌜ CanSplice (now part) (now source) place removed inserted ⌝ }
+    ensures { λ _. ⌜ Spliced (now (part .entry)) (now (source .entry)) place removed inserted (now (part .exit)) ⌝ }
+{
+    let count = wide(part[2]);
+    let mut tail = [0u32; 150];
+    let left = 2 * (count - place - removed);
+    let from = 8 + 2 * (place + removed);
+    copy_words(&mut tail, 0, &part[from..], left);
+    let at = 8 + 2 * place;
+    copy_words(part, at, source, 2 * inserted);
+    copy_words(part, at + 2 * inserted, &tail, left);
+    part[2] = (count - removed + inserted) as u32;
+}
+
+pub fn write_header(part: &mut [u32], level: u32, code: u32, count: u32)
+    requires { ⌜ 8 ≤ length (now part) ⌝ }
+    ensures { λ _. ⌜ now (part .exit) ≡ withHeader (now (part .entry)) level code count ⌝ }
+{
+    part[0] = level;
+    part[1] = code;
+    part[2] = count;
+}

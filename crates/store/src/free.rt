@@ -1,0 +1,41 @@
+ghost use Prim.Native.Nat.{_+_, _*_, _≤_, _<_};
+ghost use mathlib.Core.Path.{_≡_};
+ghost use lib.ListN.{length};
+ghost use Rattle.store.specs.Layout.{LayoutFits};
+ghost use Rattle.store.specs.FreeSlots.{TookFree, Released};
+use crate::sizes::Layout;
+use crate::slots::offset;
+use crate::slots::wide;
+
+pub enum FreeSlot {
+    Taken(u32),
+    Missing,
+}
+
+// The first free slot, taken out of the chain.
+pub fn take_free(store: &mut [u32], layout: Layout) -> FreeSlot
+    requires { ⌜ LayoutFits layout (now store) ⌝ }
+    ensures { λ r. ⌜ TookFree layout (now (store .entry)) (now (store .exit)) r ⌝ }
+{
+    let first = store[7];
+    if layout.slots <= wide(first) {
+        return FreeSlot::Missing;
+    }
+    let at = offset(layout, wide(first));
+    if store[at] != 0 {
+        return FreeSlot::Missing;
+    }
+    store[7] = store[at + 3];
+    FreeSlot::Taken(first)
+}
+
+// A slot given back: it becomes the first of the chain.
+pub fn release(store: &mut [u32], layout: Layout, slot: usize)
+    requires { ⌜ LayoutFits layout (now store) × (slot < layout .slots) ⌝ }
+    ensures { λ _. ⌜ Released (layout .width) slot (now (store .entry)) (now (store .exit)) ⌝ }
+{
+    let at = offset(layout, slot);
+    store[at] = 0;
+    store[at + 3] = store[7];
+    store[7] = slot as u32;
+}
