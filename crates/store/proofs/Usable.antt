@@ -8,9 +8,9 @@ use Rattle.store.specs.declared.sizes.Sizes.{Sizes}
 use Rattle.store.specs.declared.sizes.Layout.{Layout}
 use Rattle.store.specs.Sizes.{sizesOf, storeWords, UsableStore}
 use Rattle.store.specs.Layout.{layoutOf, storeEnd, LaidOut, LayoutFits}
-use Rattle.store.specs.Slot.{Within}
+use Rattle.store.specs.Slot.{slotPart, Within}
 use Rattle.store.proofs.Bounds.{slot-ends}
-use Rattle.store.proofs.SlotWrites.{word-in-front}
+use Rattle.store.proofs.SlotWrites.{word-in-front, slot-length}
 
 -- the sizes are words 1 to 3
 pub sizes-kept : (before after : List ℕ) → take 4 after ≡ take 4 before → sizesOf after ≡ sizesOf before
@@ -37,3 +37,8 @@ layout-fits sizes layout words u e l =
 -- a slot ends before the last one does
 pub slot-within : (layout : Layout) (slot : ℕ) (words : List ℕ) → LayoutFits layout words → slot < layout .slots → Within (layout .width) words slot
 slot-within layout slot words f h = omega (arith, f .lies, slot-ends slot (layout .slots) (layout .width) h)
+
+-- and is as long as the layout says
+pub slot-long : (layout : Layout) (words : List ℕ) (slot : ℕ) → LayoutFits layout words → slot < layout .slots
+    → length (slotPart (layout .width) words slot) ≡ layout .width
+slot-long layout words slot fits below = slot-length (layout .width) slot words (slot-within layout slot words fits below)

@@ -1,0 +1,5 @@
+pub mod Cutting
+pub mod Looking
+pub mod Ways
+pub mod Descending
+pub mod OpenedByPixel

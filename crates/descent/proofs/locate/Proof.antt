@@ -1,0 +1,149 @@
+-- `descent::locate` meets its contract. The loop's invariant is Descended: each turn steps down to a block that holds the code, or ends. The measure is the level.
+use Prim.Native.Nat.{ℕ}
+use native.Mathlib.Omega.{arith}
+use mathlib.Core.Path.{_≡_, refl, subst₂}
+use mathlib.Core.List.{List}
+use borrow.Author.Needs.{needs}
+use Rattle.store.specs.Slot.{slotPart}
+use Rattle.store.specs.Opening.{HeaderSays, Opened}
+use Rattle.store.specs.declared.opening.Opening.{Opening}
+use Rattle.descent.specs.declared.Ahead.{Ahead}
+use Rattle.descent.specs.Looked.{Looked, InnerBlock}
+use Rattle.store.proofs.Usable.{slot-long}
+use Rattle.descent.proofs.Descending.{Descended, at-root, stopped, never-at-pixel, never-closed, few-elements, found-here, never-rises, never-outside, steps-down}
+use Rattle.descent.proofs.locate.Statement.{statement}
+use Rattle.descent.proofs.locate.Tie as tie
+
+abbrev Inv-loop : tie.InvT-loop
+Inv-loop store layout order code slots₀ places₀ depth₀ slot₀ level₀ block₀ slots places depth slot level block =
+    Descended store layout order code slots places depth slot level block
+
+abbrev μ-loop : tie.MeasureT-loop
+μ-loop store layout order code slots₀ places₀ depth₀ slot₀ level₀ block₀ slots places depth slot level block = level
+
+-- the words of the block that was reached
+abbrev partOf : tie.At-loop Inv-loop μ-loop → List ℕ
+partOf c = slotPart (c .before .before .args .layout .width) (c .before .before .args .store .now) (c .loop .slot)
+
+part-is : (c : tie.After-slot-part Inv-loop μ-loop) → c .slot-part .result .now ≡ partOf (c .before .before .before)
+part-is c = rw (← c .before .wide .ensures) (c .slot-part .ensures)
+
+header : (c : tie.After-known-told Inv-loop μ-loop)
+    → let turn = c .before .before .before .before .before .before .before in HeaderSays (partOf turn) (turn .loop .level) (turn .loop .block) (c .before .count .given .0 .0)
+header c =
+    let opened = c .before .before .before in
+    let turn = opened .before .before .before .before in
+    subst₂ (λ (p : List ℕ) (r : Opening). Opened p (turn .loop .level) (turn .loop .block) r) (part-is (opened .before)) (c .before .count .given .1) (opened .open-part .ensures)
+
+inner : (c : tie.After-known-told3 Inv-loop μ-loop)
+    → let opened = c .before .before .before .before in
+    let turn = opened .before .before .before .before .before .before .before in
+    InnerBlock (partOf turn) (opened .before .count .given .0 .0) (turn .before .before .args .code) (c .before .place2 .given .0 .0)
+    (c .before .place2 .given .0 .1 .0) (c .before .place2 .given .0 .1 .1 .0) (c .before .place2 .given .0 .1 .1 .1 .0)
+inner c =
+    let opened = c .before .before .before .before in
+    let turn = opened .before .before .before .before .before .before .before in
+    subst₂ (λ (p : List ℕ) (r : Ahead). Looked p (opened .before .count .given .0 .0) (turn .before .before .args .code) r)
+    (part-is (opened .before .before .before .before)) (c .before .place2 .given .1) (c .before .before .before .look .ensures)
+
+loop-holds : tie.Need-loop-holds Inv-loop μ-loop
+loop-holds c = at-root _ _ _ _ _ _ (c .before .pre .0) refl refl
+
+slot-part-requires : tie.Need-slot-part-requires Inv-loop μ-loop
+slot-part-requires c κs = (c .before .before .before .before .pre .0, omega (arith, c .before .before .loop .inv .slot-below, c .wide .ensures))
+
+open-part-requires : tie.Need-open-part-requires Inv-loop μ-loop
+open-part-requires c κs =
+    let turn = c .before .before .before in
+    let fits = turn .before .before .pre .0 in
+    rw (part-is c) (omega (arith, slot-long _ _ _ fits (turn .loop .inv .slot-below), fits .within .width-from, fits .within .width-to))
+
+returns : tie.Need-returns Inv-loop μ-loop
+returns c =
+    let opened = c .before .before .before in
+    let turn = opened .before .before .before .before in
+    stopped (c .damaged-at .ensures)
+    (never-closed (turn .before .before .pre .0) (turn .loop .inv)
+    (subst₂ (λ (p : List ℕ) (r : Opening). Opened p (turn .loop .level) (turn .loop .block) r) (part-is (opened .before)) (c .before .enum-told .given .1) (opened .open-part .ensures)))
+
+look-requires : tie.Need-look-requires Inv-loop μ-loop
+look-requires c κs =
+    let turn = c .before .before .before .before .before .before .before in
+    rw (part-is (c .before .before .before .before)) (header c .laid, few-elements (turn .before .before .pre .0) (turn .loop .inv) (header c))
+
+returns-2 : tie.Need-returns-2 Inv-loop μ-loop
+returns-2 c =
+    let opened = c .before .before .before .before in
+    let turn = opened .before .before .before .before .before .before .before in
+    found-here (turn .before .before .pre .0) (turn .loop .inv) (header opened) (c .before .place .given .0 .0) (c .before .place .given .0 .1 .0)
+    (subst₂ (λ (p : List ℕ) (r : Ahead). Looked p (opened .before .count .given .0 .0) (turn .before .before .args .code) r)
+    (part-is (opened .before .before .before .before)) (c .before .place .given .1) (c .before .before .before .look .ensures))
+
+returns-3 : tie.Need-returns-3 Inv-loop μ-loop
+returns-3 c =
+    let entered = c .before .before in
+    let opened = entered .before .before .before .before in
+    let turn = opened .before .before .before .before .before .before .before in
+    stopped (c .damaged-at2 .ensures)
+    (never-rises (turn .before .before .pre .0) (turn .loop .inv) (header opened) (inner entered) (c .before .if1 .taken))
+
+returns-4 : tie.Need-returns-4 Inv-loop μ-loop
+returns-4 c =
+    let entered = c .before .before .before .before .before in
+    let opened = entered .before .before .before .before in
+    let turn = opened .before .before .before .before .before .before .before in
+    stopped (c .damaged-at3 .ensures)
+    (never-outside (turn .before .before .pre .0) (turn .loop .inv) (header opened) (inner entered) (omega (arith, c .before .if2 .taken, c .before .before .before .wide2 .ensures)))
+
+cast-places : tie.Need-cast-places Inv-loop μ-loop
+cast-places c =
+    let entered = c .before .before .before .before in
+    let opened = entered .before .before .before .before in
+    let turn = opened .before .before .before .before .before .before .before in
+    omega (arith, inner entered .within, few-elements (turn .before .before .pre .0) (turn .loop .inv) (header opened))
+
+loop-again : tie.Need-loop-again Inv-loop μ-loop
+loop-again c =
+    let entered = c .before .before .before .before in
+    let opened = entered .before .before .before .before in
+    let turn = opened .before .before .before .before .before .before .before in
+    steps-down (turn .before .before .pre .0) (turn .loop .inv) (header opened) (inner entered) (turn .before .before .pre .1) (c .before .before .before .if1 .left) (omega (arith, c .if2 .left, c .before .before .wide2 .ensures))
+
+returns-5 : tie.Need-returns-5 Inv-loop μ-loop
+returns-5 c =
+    let turn = c .before .before in
+    stopped (c .damaged-at4 .ensures) (never-at-pixel (turn .before .before .pre .0) (turn .loop .inv) (c .before .loop-test .left))
+
+pub locate-spec : {M : Type 1} → statement M
+locate-spec =
+    tie.close
+    (tie.spec
+    Inv-loop
+    μ-loop
+    loop-holds
+    (λ c κs. search needs)
+    slot-part-requires
+    open-part-requires
+    (λ c. search needs)
+    (λ c. search needs)
+    (λ c κs. search needs)
+    returns
+    look-requires
+    (λ c. search needs)
+    returns-2
+    (λ c. search needs)
+    (λ c κs. search needs)
+    returns-3
+    (λ c κs. search needs)
+    (λ c κs. search needs)
+    returns-4
+    (λ c. search needs)
+    (λ c. search needs)
+    cast-places
+    (λ c. search needs)
+    (λ c. search needs)
+    (λ c. search needs)
+    (λ c. search needs)
+    loop-again
+    (λ c κs. search needs)
+    returns-5)

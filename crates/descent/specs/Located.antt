@@ -1,0 +1,55 @@
+-- What the descent to a code finds: the smallest block that holds it, and its place among that block's elements.
+use Prim.Native.Nat.{ℕ, zero, suc, _+_, _-_, _^_, _≤_, _<_}
+use mathlib.Core.Path.{_≡_}
+use mathlib.Core.Bool.{Bool, true, false}
+use mathlib.Core.List.{List, [], _∷_}
+use lib.ListN.{length, getD}
+use Rattle.pktree.specs.Elements.{size}
+use Rattle.pktree.proofs.Arranged.{Arranged}
+use Rattle.store.specs.Sizes.{sizesOf}
+use Rattle.store.specs.Layout.{layoutOf}
+use Rattle.store.specs.Opening.{CannotOpen}
+use Rattle.store.specs.declared.sizes.Layout.{Layout}
+use Rattle.store.specs.Placed.{Placed, pixelThen, forestOf, _⧻_}
+use Rattle.store.specs.Sound.{Sound}
+use Rattle.descent.specs.declared.Located.{Located}
+use Rattle.descent.specs.Way.{Frame, plug}
+
+-- the arrays name, root first, the slot of each block that was passed and the place of the element that was entered
+abbrev pub PathNames : List ℕ → List ℕ → List Frame → Type 0
+PathNames slots places [] = Unit {0}
+PathNames slots places (f ∷ way) =
+    (getD slots (length way) 0 ≡ f .slot) × (getD places (length way) 0 ≡ size (forestOf (f .before))) × PathNames slots places way
+
+-- where the code stands: at a pixel of its own, or between two elements
+pub record PlaceIn (k level from code to place : ℕ) (marked : Bool) (es : Placed) : Type 0 where
+  pub before : Placed
+  pub after : Placed
+  pub place-is : size (forestOf before) ≡ place
+  pub below : Arranged k level from code (forestOf before)
+  pub above : Arranged k level (suc code) to (forestOf after)
+  pub is : (marked ≡ true → es ≡ before ⧻ pixelThen code after) × (marked ≡ false → es ≡ before ⧻ after)
+
+-- on a sound store: the block at the end of the way
+pub record LocatedIn (words : List ℕ) (placed : Placed) (code : ℕ) (r : Located) : Type 0 where
+  pub way : List Frame
+  pub es : Placed
+  pub whole : placed ≡ plug way (r .slot) (r .level) (r .block) es
+  pub depth : r .depth ≡ length way
+  pub names : PathNames (r .slots) (r .places) way
+  pub holds : (r .block ≤ code) × (code < r .block + 4 ^ r .level)
+  pub place : PlaceIn (getD words 2 0) (r .level) (r .block) code (r .block + 4 ^ r .level) (r .place) (r .marked) es
+
+-- on every store the numbers stay in bounds
+pub record LocatedBounds (slots order : ℕ) (r : Located) : Type 0 where
+  pub slot-below : r .slot < slots
+  pub deep : r .depth + r .level ≤ order
+  pub path-below : (i : ℕ) → i < r .depth → getD (r .slots) i 0 < slots
+  pub place-below : r .place ≤ 75
+
+-- never damaged on a sound store
+pub record LocateMeets (words : List ℕ) (layout : Layout) (order code : ℕ) (r : Located) : Type 0 where
+  pub bounds : r .damaged ≡ false → LocatedBounds (layout .slots) order r
+  pub sound : (placed : Placed) → Sound words placed → layout ≡ layoutOf (sizesOf words) → order ≡ getD words 1 0 → code < 4 ^ order
+      → (r .damaged ≡ false) × LocatedIn words placed code r
+  pub closed : CannotOpen (layout .width) words 0 order 0 → r .damaged ≡ true

@@ -1,0 +1,50 @@
+-- `runs::reach_right` meets its contract: at every turn all from `from` up to `right` are near.
+use Prim.Native.Nat.{ℕ, _-_, _≤_, _<_}
+use native.Mathlib.Omega.{arith}
+use native.Mathlib.Nat.{eq-or-lt-of-le}
+use mathlib.Core.Logic.{⊎-elim}
+use borrow.Author.Needs.{needs}
+use Rattle.store.specs.Splice.{codeAt}
+use Rattle.runs.specs.Run.{Near}
+use Rattle.runs.proofs.Runs.{near-at, not-near-at}
+use Rattle.runs.proofs.reach_right.Statement.{statement}
+use Rattle.runs.proofs.reach_right.Tie as tie
+
+abbrev Inv-loop : tie.InvT-loop
+Inv-loop part count from code level right₀ right = (from ≤ right) × (right ≤ count) × ((i : ℕ) → from ≤ i → i < right → Near level code (codeAt part i))
+
+abbrev μ-loop : tie.MeasureT-loop
+μ-loop part count from code level right₀ right = count - right
+
+returns : tie.Need-returns Inv-loop μ-loop
+returns c =
+    let l = c .before .before .before .loop in
+    record {
+      low = l .inv .0;
+      within = l .inv .1;
+      near = l .inv .2;
+      ends = λ h. not-near-at _ (c .before .level-at .ensures .there h) (c .if1 .taken);
+    }
+
+loop-again : tie.Need-loop-again Inv-loop μ-loop
+loop-again c =
+    let l = c .before .before .before .loop in
+    let near = near-at _ (c .before .level-at .ensures .there (omega arith)) (c .if1 .left) in
+    (omega arith, omega arith, λ i p q. let h : i ≤ l .right = omega arith in ⊎-elim (λ e. rw e near) (λ s. l .inv .2 i p s) (eq-or-lt-of-le h))
+
+returns-2 : tie.Need-returns-2 Inv-loop μ-loop
+returns-2 c = let l = c .before .loop in record { low = l .inv .0; within = l .inv .1; near = l .inv .2; ends = λ h. omega arith }
+
+pub reach-right-spec : {M : Type 1} → statement M
+reach-right-spec =
+    tie.close
+    (tie.spec
+    Inv-loop
+    μ-loop
+    (λ c. search needs)
+    (λ c κs. search needs)
+    returns
+    (λ c. search needs)
+    (λ c. search needs)
+    loop-again
+    returns-2)

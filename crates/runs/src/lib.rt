@@ -1,0 +1,102 @@
+// Where a block is to be formed: the run of elements that it takes. It only reads.
+ghost use Prim.Native.Nat.{_+_, _*_, _≤_, _<_};
+ghost use lib.ListN.{length};
+ghost use Rattle.runs.specs.Run.{Counted, LevelAt, LevelBefore, ReachedLeft, ReachedRight, RunMeets};
+use store::elements::find_place;
+
+// The elements that a new block is to take, where one is to be formed.
+pub enum Run {
+    Formed {
+        level: u32,
+        first: usize,
+        length: usize,
+    },
+    Nothing,
+}
+
+// The level of the smallest block that holds the code and the code of element i; 17, above every level, where there is no such element.
+pub fn level_at(part: &[u32], count: usize, i: usize, code: u32) -> u32
+    requires { ⌜ Counted (now part) count ⌝ }
+    ensures { λ r. ⌜ LevelAt (now (part .entry)) count i code r ⌝ }
+{
+    if count <= i {
+        return 17;
+    }
+    morton::common_level(part[8 + 2 * i], code)
+}
+
+// The same of the element before place i; 17 where there is none.
+pub fn level_before(part: &[u32], count: usize, i: usize, code: u32) -> u32
+    requires { ⌜ Counted (now part) count × (i ≤ count) ⌝ }
+    ensures { λ r. ⌜ LevelBefore (now (part .entry)) i code r ⌝ }
+{
+    if i == 0 {
+        return 17;
+    }
+    level_at(part, count, i - 1, code)
+}
+
+// How far to the left of `from` the elements in the block of this level around the code reach.
+pub fn reach_left(part: &[u32], count: usize, from: usize, code: u32, level: u32) -> usize
+    requires { ⌜ Counted (now part) count × (from ≤ count) ⌝ }
+    ensures { λ r. ⌜ ReachedLeft (now (part .entry)) from code level r ⌝ }
+{
+    let mut left = from;
+    while 0 < left {
+        if level < level_before(part, count, left, code) {
+            return left;
+        }
+        left -= 1;
+    }
+    left
+}
+
+pub fn reach_right(part: &[u32], count: usize, from: usize, code: u32, level: u32) -> usize
+    requires { ⌜ Counted (now part) count × (from ≤ count) ⌝ }
+    ensures { λ r. ⌜ ReachedRight (now (part .entry)) count from code level r ⌝ }
+{
+    let mut right = from;
+    while right < count {
+        if level < level_at(part, count, right, code) {
+            return right;
+        }
+        right += 1;
+    }
+    right
+}
+
+// The least level below the block's own at which the block around the code holds k of the elements; these are one run, found going
+// outwards from the code's place by the levels of common blocks.
+pub fn find_run(part: &[u32], count: usize, level: u32, k: usize, code: u32) -> Run
+    requires { ⌜ Counted (now part) count × ((level ≤ 16) × ((2 ≤ k) × (k ≤ 16))) ⌝ }
+    ensures { λ r. ⌜ RunMeets (now (part .entry)) count level k code r ⌝ }
+{
+    let place = find_place(part, count, code);
+    let mut left = place;
+    let mut right = place;
+    let mut reached: u32 = 0;
+    while right - left < k {
+        let below = level_before(part, count, left, code);
+        let above = level_at(part, count, right, code);
+        if below <= above {
+            if level <= below {
+                return Run::Nothing;
+            }
+            reached = below;
+            left -= 1;
+        } else {
+            if level <= above {
+                return Run::Nothing;
+            }
+            reached = above;
+            right += 1;
+        }
+    }
+    let first = reach_left(part, count, left, code, reached);
+    let end = reach_right(part, count, right, code, reached);
+    Run::Formed {
+        level: reached,
+        first,
+        length: end - first,
+    }
+}
