@@ -1,0 +1,3 @@
+pub mod SlotNows
+pub mod Runs
+pub mod Moves

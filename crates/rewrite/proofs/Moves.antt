@@ -1,0 +1,56 @@
+-- A run of elements that moves to a free slot: what taking the slot, the splice and the slot written leave together.
+use Prim.Native.Nat.{ℕ, _+_, _*_, _≤_, _<_}
+use native.Mathlib.Omega.{arith}
+use mathlib.Core.Path.{_≡_, ap, sym, _∙_}
+use mathlib.Core.List.{List}
+use lib.ListN.{length, getD, take}
+use Rattle.store.specs.declared.sizes.Layout.{Layout}
+use Rattle.store.specs.declared.free.FreeSlot.the-variants.{Taken}
+use Rattle.store.specs.Slot.{slotPart, levelWord, codeWord, nextWord, OnlySlot}
+use Rattle.store.specs.Splice.{elementsIn, CanSplice, Spliced}
+use Rattle.store.specs.FreeSlots.{TookFree}
+use Rattle.store.proofs.SlotWrites.{HeadWritten, SlotWritten, slot-length, head-word-set}
+use Rattle.store.proofs.Usable.{slot-within}
+use Rattle.rewrite.specs.Rewrite.{CanCut, SlotNow, WroteSlot, BlockFormed, blockWords, runWords, withBlock}
+use Rattle.rewrite.proofs.SlotNows.{spliced-now}
+
+-- a run of at least one element gives way to one
+pub run-gives-way : {layout : Layout} {words : List ℕ} {slot level first size : ℕ} (source : List ℕ) → CanCut layout words slot level first size → 1 ≤ size
+    → 2 ≤ length source → CanSplice (slotPart (layout .width) words slot) source first size 1
+run-gives-way {layout} {words} {slot} source can some two =
+    let long : length (slotPart (layout .width) words slot) ≡ layout .width =
+    slot-length (layout .width) slot words (slot-within layout slot words (can .fits) (can .slot-below)) in
+    record {
+      short = omega (arith, can .fits .within);
+      laid = omega (arith, can .laid);
+      cut = can .within;
+      room = omega (arith, can .laid, can .within);
+      source-long = two;
+    }
+
+-- a free slot taken changes no slot
+pub taken-slots : {layout : Layout} {fresh : ℕ} {before taken : List ℕ} → TookFree layout before taken (Taken fresh)
+    → HeadWritten (layout .width) 7 (nextWord (slotPart (layout .width) before fresh)) before taken
+taken-slots {layout} {fresh} {before} took =
+    rw (took .3) (head-word-set (layout .width) before 7 (nextWord (slotPart (layout .width) before fresh)) (omega arith))
+
+-- the free slot is taken, the run gives way to the block's element, and the free slot says the run
+pub block-formed : {layout : Layout} {slot level code first size fresh : ℕ} {before taken cut after part part′ moved : List ℕ} → CanCut layout before slot level first size
+    → 1 ≤ size → TookFree layout before taken (Taken fresh) → Spliced (slotPart (layout .width) taken slot) (blockWords fresh level code) first size 1 part
+    → SlotWritten (layout .width) slot taken part cut → WroteSlot (slotPart (layout .width) cut fresh) level code moved part′
+    → SlotWritten (layout .width) fresh cut part′ after → moved ≡ runWords (elementsIn (slotPart (layout .width) taken slot)) first size
+    → BlockFormed layout slot level code first size (getD before 7 0) before after
+block-formed {slot = slot} {level = level} {code = code} {fresh = fresh} can some took spliced own wrote other run =
+    let h = taken-slots took in
+    let self = h .slots slot in
+    rw (← took .0) (record {
+      long = other .only .long ∙ own .only .long ∙ h .long;
+      fresh-is = took .0;
+      fresh-below = took .1;
+      was-free = took .2;
+      head = other .only .head ∙ own .only .head ∙ h .head;
+      others = λ t ne nf. other .only .others t nf ∙ own .only .others t ne ∙ h .slots t;
+      past = λ n below fresh-below. other .only .past n fresh-below ∙ own .only .past n below ∙ h .past n;
+      new-block = λ apart. rw (other .self, ← self, ← run) (wrote .now-says);
+      around = λ apart. rw (other .only .others slot (λ e. apart (sym e)), own .self, ← self) (spliced-now (rw self (run-gives-way (blockWords fresh level code) can some (omega arith))) spliced);
+    })

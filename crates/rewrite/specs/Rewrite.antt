@@ -1,0 +1,86 @@
+-- What rewriting a slot leaves, in words.
+use Prim.Native.Nat.{ℕ, suc, _+_, _-_, _*_, _≤_, _<_}
+use mathlib.Core.Path.{_≡_}
+use mathlib.Core.List.{List, [], _∷_, _++_}
+use lib.ListN.{length, getD, take, drop, set}
+use Rattle.store.specs.declared.sizes.Layout.{Layout}
+use Rattle.store.specs.Layout.{LayoutFits}
+use Rattle.store.specs.Slot.{slotPart, levelWord, codeWord, countWord, nextWord, OnlySlot}
+use Rattle.store.specs.Splice.{elementsIn, Spliced}
+use Rattle.store.specs.FreeSlots.{Released}
+use Rattle.rewrite.specs.declared.Forming.{Forming}
+use Rattle.rewrite.specs.declared.Forming.the-variants.{Formed, NoSlot}
+
+-- a slot's words say this level, this code and elements of these words
+pub record SlotNow (part : List ℕ) (level code : ℕ) (elements : List ℕ) : Type 0 where
+  pub level-is : levelWord part ≡ level
+  pub code-is : codeWord part ≡ code
+  pub count-is : 2 * countWord part ≡ length elements
+  pub elements-are : elementsIn part ≡ elements
+
+pub record WroteSlot (before : List ℕ) (level code : ℕ) (elements after : List ℕ) : Type 0 where
+  pub now-says : SlotNow after level code elements
+  pub long : length after ≡ length before
+
+pub record SplicedSlot (width slot place removed inserted : ℕ) (source before after : List ℕ) : Type 0 where
+  pub spliced : Spliced (slotPart width before slot) source place removed inserted (slotPart width after slot)
+  pub only : OnlySlot width slot before after
+
+-- a run of elements lies in the slot, and a block of it can be named
+pub record CanCut (layout : Layout) (words : List ℕ) (slot level first size : ℕ) : Type 0 where
+  pub fits : LayoutFits layout words
+  pub slot-below : slot < layout .slots
+  pub level-to : level ≤ 16
+  pub laid : 8 + 2 * countWord (slotPart (layout .width) words slot) ≤ layout .width
+  pub within : first + size ≤ countWord (slotPart (layout .width) words slot)
+
+-- what is handed up has room in the scratch words: fewer than k elements
+pub record CanHandUp (layout : Layout) (words : List ℕ) (slot level first size : ℕ) (scratch : List ℕ) : Type 0 where
+  pub cut : CanCut layout words slot level first size
+  pub few : countWord (slotPart (layout .width) words slot) < size + 16
+  pub room : length scratch ≡ 32
+
+-- the two words of a block's element
+abbrev pub blockWords : ℕ → ℕ → ℕ → List ℕ
+blockWords slot level code = code ∷ (1 + slot + level * 1048576) ∷ []
+
+-- the words of the run, and those around it with one element in its place
+abbrev pub runWords : List ℕ → ℕ → ℕ → List ℕ
+runWords elements first size = take (2 * size) (drop (2 * first) elements)
+
+abbrev pub withBlock : List ℕ → ℕ → ℕ → List ℕ → List ℕ
+withBlock elements first size one = take (2 * first) elements ++ (one ++ drop (2 * (first + size)) elements)
+
+-- the first free slot holds the run as a block, and the slot has one element in the run's place
+pub record BlockFormed (layout : Layout) (slot level code first size fresh : ℕ) (before after : List ℕ) : Type 0 where
+  pub long : length after ≡ length before
+  pub fresh-is : fresh ≡ getD before 7 0
+  pub fresh-below : fresh < layout .slots
+  pub was-free : levelWord (slotPart (layout .width) before fresh) ≡ 0
+  pub head : take 8 after ≡ set (take 8 before) 7 (nextWord (slotPart (layout .width) before fresh))
+  pub others : (t : ℕ) → (t ≡ slot → ⊥) → (t ≡ fresh → ⊥) → slotPart (layout .width) after t ≡ slotPart (layout .width) before t
+  pub past : (n : ℕ) → slot < n → fresh < n → drop (8 + n * layout .width) after ≡ drop (8 + n * layout .width) before
+  pub new-block : (fresh ≡ slot → ⊥) → SlotNow (slotPart (layout .width) after fresh) level code (runWords (elementsIn (slotPart (layout .width) before slot)) first size)
+  pub around : (fresh ≡ slot → ⊥)
+      → SlotNow (slotPart (layout .width) after slot) (levelWord (slotPart (layout .width) before slot)) (codeWord (slotPart (layout .width) before slot))
+      (withBlock (elementsIn (slotPart (layout .width) before slot)) first size (blockWords fresh level code))
+
+abbrev pub FormMeets : Layout → ℕ → ℕ → ℕ → ℕ → ℕ → List ℕ → List ℕ → Forming → Type 0
+FormMeets layout slot level code first size before after Formed = BlockFormed layout slot level code first size (getD before 7 0) before after
+FormMeets layout slot level code first size before after NoSlot =
+    (after ≡ before) × (getD before 7 0 < layout .slots → levelWord (slotPart (layout .width) before (getD before 7 0)) ≡ 0 → ⊥)
+
+-- the scratch has the elements beside the run and the run as a block in this slot; the slot holds that block
+pub record HandedUpBlock (layout : Layout) (slot level code first size : ℕ) (before after scratch scratch′ : List ℕ) (r : ℕ) : Type 0 where
+  pub rest-is : r + size ≡ countWord (slotPart (layout .width) before slot) + 1
+  pub long : length scratch′ ≡ length scratch
+  pub handed : take (2 * r) scratch′ ≡ withBlock (elementsIn (slotPart (layout .width) before slot)) first size (blockWords slot level code)
+  pub taken-over : SlotNow (slotPart (layout .width) after slot) level code (runWords (elementsIn (slotPart (layout .width) before slot)) first size)
+  pub only : OnlySlot (layout .width) slot before after
+
+-- the scratch has all elements, and the slot is free
+pub record HandedUpAll (layout : Layout) (slot : ℕ) (before after scratch scratch′ : List ℕ) (r : ℕ) : Type 0 where
+  pub rest-is : r ≡ countWord (slotPart (layout .width) before slot)
+  pub long : length scratch′ ≡ length scratch
+  pub handed : take (2 * r) scratch′ ≡ elementsIn (slotPart (layout .width) before slot)
+  pub freed : Released (layout .width) slot before after
