@@ -1,17 +1,17 @@
 -- A run of elements that moves to a free slot: what taking the slot, the splice and the slot written leave together.
-use Prim.Native.Nat.{ℕ, _+_, _*_, _≤_, _<_}
+use Prim.Native.Nat.{ℕ, _≤_}
 use native.Mathlib.Omega.{arith}
-use mathlib.Core.Path.{_≡_, ap, sym, _∙_}
+use mathlib.Core.Path.{_≡_, sym, _∙_}
 use mathlib.Core.List.{List}
-use lib.ListN.{length, getD, take}
+use lib.ListN.{length, getD}
 use Rattle.store.specs.declared.sizes.Layout.{Layout}
 use Rattle.store.specs.declared.free.FreeSlot.the-variants.{Taken}
-use Rattle.store.specs.Slot.{slotPart, levelWord, codeWord, nextWord, OnlySlot}
+use Rattle.store.specs.Slot.{slotPart, nextWord}
 use Rattle.store.specs.Splice.{elementsIn, CanSplice, Spliced}
 use Rattle.store.specs.FreeSlots.{TookFree}
 use Rattle.store.proofs.SlotWrites.{HeadWritten, SlotWritten, slot-length, head-word-set}
 use Rattle.store.proofs.Usable.{slot-within}
-use Rattle.rewrite.specs.Rewrite.{CanCut, SlotNow, WroteSlot, BlockFormed, blockWords, runWords, withBlock}
+use Rattle.rewrite.specs.Rewrite.{CanCut, WroteSlot, BlockFormed, blockWords, runWords}
 use Rattle.rewrite.proofs.SlotNows.{spliced-now}
 
 -- a run of at least one element gives way to one

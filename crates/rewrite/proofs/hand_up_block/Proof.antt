@@ -63,10 +63,10 @@ returns c =
     run-copied width (a .slot) (o .result) (o .result + 8 + 2 * a .first) (a .first) (a .size) words _ (o .ensures .is) (omega arith) lies (s .pre .cut .laid)
     (s .pre .cut .within) (third .copy-words3 .ensures) in
     record {
-      rest-is = omega (arith, n, s .pre);
+      rest-is = omega (arith, s .pre);
       long = same-length-2 c;
       handed = beside-run width (a .slot) (o .result) (a .first) (a .size) (w .wide .result - a .first - a .size) (a .code) _ words (a .scratch .now) (o .ensures .is)
-          lies (s .pre .cut .laid) (omega (arith, n, s .pre)) (omega (arith, n, s .pre)) (first .copy-words .ensures) (second .copy-words2 .ensures);
+          lies (s .pre .cut .laid) (omega (arith, s .pre)) (omega (arith, s .pre)) (first .copy-words .ensures) (second .copy-words2 .ensures);
       taken-over = rw (g .self, ← run) (wrote .write-slot .ensures .now-says);
       only = g .only;
     }
@@ -132,8 +132,8 @@ hand-up-block-spec =
     (λ c. omega (arith, c .before .before .before .before .before .before .before .before .before .before .before .before .before .before .before .before .before .before .before))
     (λ c. search needs)
     write-slot-requires
-    (λ c. omega (arith, counted (c .before .before .before .before .before .before .before .before .before .before .before .before .before .before .before .before .before .before .before .before .before .before), c .before .before .before .before .before .before .before .before .before .before .before .before .before .before .before .before .before .before .before .before .before .before))
-    (λ c. omega (arith, counted (c .before .before .before .before .before .before .before .before .before .before .before .before .before .before .before .before .before .before .before .before .before .before), c .before .before .before .before .before .before .before .before .before .before .before .before .before .before .before .before .before .before .before .before .before .before))
+    (λ c. let w = c .before .before .before .before .before .before .before .before .before .before .before .before .before .before .before .before .before .before .before .before .before .before in omega (arith, w, counted w))
+    (λ c. let w = c .before .before .before .before .before .before .before .before .before .before .before .before .before .before .before .before .before .before .before .before .before .before in omega (arith, w, counted w))
     (λ c. search needs)
     same-length-2
     returns)

@@ -1,0 +1,62 @@
+-- What the descent finds is what ask answers.
+use Prim.Native.Nat.{ℕ, suc, _+_, _^_, _≤_, _<_}
+use native.Mathlib.Omega.{arith}
+use mathlib.Core.Path.{_≡_, refl, ap, ap₂, subst, sym, _∙_}
+use mathlib.Core.Bool.{Bool, true, false}
+use mathlib.Core.List.{List}
+use lib.ListN.{getD}
+use Rattle.pktree.specs.PixelSet.{member}
+use Rattle.pktree.specs.Elements.{Forest}
+use Rattle.pktree.specs.Tree.{tree, pixels}
+use Rattle.pktree.specs.Window.{openedByPixel}
+use Rattle.store.specs.declared.sizes.Sizes.{Sizes}
+use Rattle.store.specs.declared.sizes.Layout.{Layout}
+use Rattle.store.specs.Sizes.{panelOf, slotWidth, sizesOf, UsableStore}
+use Rattle.store.specs.Layout.{layoutOf, LaidOut}
+use Rattle.store.specs.Slot.{slotPart, countWord}
+use Rattle.store.specs.Opening.{HeaderSays, CannotOpen}
+use Rattle.store.specs.Placed.{forestOf}
+use Rattle.store.specs.Sound.{Sound, Holds}
+use Rattle.descent.specs.declared.Located.{Located}
+use Rattle.descent.specs.Located.{LocateMeets}
+use Rattle.descent.proofs.OpenedByPixel.{opened-by-pixel, marked-exactly}
+use Rattle.query.specs.declared.ask.Asked.{Asked}
+use Rattle.query.specs.declared.ask.Asked.the-variants.{Known, Damaged}
+use Rattle.query.specs.Asking.{AskAnswer}
+
+module _ (words : List ℕ) (code : ℕ) (sizes : Sizes) (layout : Layout) (r : Located) (usable : UsableStore words) (sizes-are : sizes ≡ sizesOf words) (laid : LaidOut sizes layout)
+    (on : code < 4 ^ sizes .order) (m : LocateMeets words layout (sizes .order) code r) where
+  layout-is : layout ≡ layoutOf (sizesOf words)
+  layout-is = laid .is ∙ ap layoutOf sizes-are
+
+  order-is : sizes .order ≡ getD words 1 0
+  order-is = ap (λ (s : Sizes). s .order) sizes-are
+
+  -- where the root's slot says otherwise, the descent says so
+  shut : CannotOpen (slotWidth (getD words 2 0)) words 0 (getD words 1 0) 0 → r .damaged ≡ true
+  shut h = m .closed (λ s. h (subst (λ (l : ℕ). HeaderSays (slotPart (slotWidth (getD words 2 0)) words 0) l 0 (countWord (slotPart (slotWidth (getD words 2 0)) words 0))) order-is
+      (subst (λ (w : ℕ). HeaderSays (slotPart w words 0) (sizes .order) 0 (countWord (slotPart w words 0))) (ap (λ (l : Layout). l .width) layout-is) s)))
+
+  pub asked-known : r .damaged ≡ false → AskAnswer words code (Known (r .marked) (r .depth + 1))
+  asked-known ok =
+      record {
+        bounds = omega (arith, m .bounds ok .deep, usable .valid .panel .order-to, order-is);
+        sound = λ set holds.
+            let s = holds .sound in
+            let l = m .sound (holds .placed) s layout-is order-is on .1 in
+            let e : forestOf (holds .placed) ≡ tree (panelOf (sizesOf words)) (member set) = s .is-tree ∙ ap (λ (t : List ℕ). tree (panelOf (sizesOf words)) (member t)) (holds .set-is) in
+            let marked : member set code ≡ r .marked = ap (λ (t : List ℕ). member t code) (sym (holds .set-is)) ∙ marked-exactly s l in
+            let opened : openedByPixel code (tree (panelOf (sizesOf words)) (member set)) ≡ suc (r .depth) = ap (openedByPixel code) (sym e) ∙ opened-by-pixel s l in
+            ap₂ Known (sym marked) (omega (arith, opened));
+        closed = λ h. absurd (let z : _≡_ {A = Bool} true false = sym (shut h) ∙ ok in let y : _≡_ {A = ℕ} 0 1 = cc in omega arith);
+      }
+
+  pub asked-damaged : r .damaged ≡ true → AskAnswer words code Damaged
+  asked-damaged bad =
+      record {
+        bounds = tt;
+        sound = λ set holds.
+            let ok = m .sound (holds .placed) (holds .sound) layout-is order-is on .0 in
+            absurd (let z : _≡_ {A = Bool} true false = sym bad ∙ ok in let y : _≡_ {A = ℕ} 0 1 = cc in omega arith);
+        closed = λ h. refl;
+      }

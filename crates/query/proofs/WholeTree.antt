@@ -1,0 +1,55 @@
+-- The root of a sound store as a window walk sees it: all that 01 counts of the set is seen below it, and there is room for that.
+use Prim.Native.Nat.{ℕ, suc, _≤_}
+use native.Mathlib.Omega.{arith}
+use mathlib.Core.Path.{_≡_, refl, ap, sym, _∙_}
+use mathlib.Core.Bool.{true}
+use mathlib.Core.List.{List}
+use lib.ListN.{length, getD}
+use Rattle.morton.specs.Code.{gatherBits, xOf, yOf}
+use Rattle.pktree.specs.Panel.{Panel}
+use Rattle.pktree.specs.PixelSet.{member}
+use Rattle.pktree.specs.Elements.{empty, block}
+use Rattle.pktree.specs.Tree.{tree, pixels, blockOf}
+use Rattle.pktree.specs.Window.{Window, found, sharesPixel, openedByWindow}
+use Rattle.store.specs.Sizes.{panelOf, slotCount, slotWidth, sizesOf}
+use Rattle.store.specs.Placed.{Placed, forestOf}
+use Rattle.store.specs.Sound.{Holds}
+use Rattle.store.proofs.SoundView.{sound-view}
+use Rattle.store.proofs.BlockView.{BlockView, root-view}
+use Rattle.query.specs.Counting.{foundIn, Ordered, BeginsOnPanel}
+use Rattle.query.proofs.WindowTests.{corners-exactly, corners-decide}
+use Rattle.query.proofs.WindowParts.{found-few, opened-few, block-opened}
+
+pub record WholeTree (words : List ℕ) (window : Window) (set : List ℕ) (es : Placed) : Type 0 where
+  pub view : BlockView (getD words 2 0) (slotWidth (getD words 2 0)) (slotCount (getD words 2 0) (getD words 3 0)) words 0 (getD words 1 0) 0 es
+  pub all-found : found window (pixels (forestOf es)) ≡ found window set
+  pub all-opened : openedByWindow window (tree (panelOf (sizesOf words)) (member set)) ≡ suc (openedByWindow window (forestOf es))
+  pub few-found : foundIn window (forestOf es) ≤ getD words 3 0
+  pub few-opened : suc (openedByWindow window (forestOf es)) ≤ slotCount (getD words 2 0) (getD words 3 0)
+
+-- the root's lowest corner is the panel's
+first-corner : (xOf 0 ≡ 0) × (yOf 0 ≡ 0)
+unfolding gatherBits
+first-corner = (refl, refl)
+
+pub whole-tree : (words : List ℕ) (window : Window) (set : List ℕ) → Holds words set → Ordered window → BeginsOnPanel (panelOf (sizesOf words)) window
+    → (es : Placed) × WholeTree words window set es
+whole-tree words window set holds ordered on =
+    let placed : Placed = holds .placed in
+    let panel : Panel = panelOf (sizesOf words) in
+    let (es, v) = sound-view words placed (holds .sound) in
+    let root = root-view words placed es (holds .sound) v in
+    let is : tree panel (member set) ≡ block (getD words 1 0) 0 (forestOf es) empty =
+    ap (λ (l : List ℕ). tree panel (member l)) (sym (holds .set-is)) ∙ sym (holds .sound .is-tree) ∙ ap forestOf (v .is) in
+    let shares : sharesPixel window (blockOf (getD words 1 0) 0 (forestOf es)) ≡ true =
+    sym (corners-decide window (getD words 1 0) 0 (forestOf es) (root .level-to) (root .aligned) (root .ends) ordered)
+    ∙ corners-exactly window (getD words 1 0) 0 .1 (omega (arith, first-corner, on .x-on, on .y-on)) in (
+      es,
+      record {
+        view = root;
+        all-found = ap (found window) (sym (v .same-pixels) ∙ holds .set-is);
+        all-opened = ap (openedByWindow window) is ∙ block-opened window (getD words 1 0) 0 (forestOf es) shares .one-opened;
+        few-found = omega (arith, found-few window (pixels (forestOf es)), ap length (v .same-pixels), holds .sound .fits);
+        few-opened = omega (arith, opened-few window (forestOf es), v .few);
+      },
+    )

@@ -1,0 +1,96 @@
+-- What a window finds and opens among elements, from what it finds and opens in their parts.
+use Prim.Native.Nat.{ℕ, suc, _+_, _^_, _≤_, _<_}
+use native.Mathlib.Omega.{arith}
+use mathlib.Core.Path.{_≡_, refl, ap, ap₂, sym, _∙_}
+use mathlib.Core.Bool.{Bool, true, false, cond, false≢true}
+use mathlib.Core.List.{List, [], _∷_, _++_, append-nil}
+use lib.ListN.{length, length-append}
+use Rattle.pktree.specs.Lists.{select}
+use Rattle.pktree.specs.Elements.{Forest, empty, pixel, block, _⧺_}
+use Rattle.pktree.specs.Tree.{blockOf, blocks, pixels}
+use Rattle.pktree.specs.Window.{Window, inWindow, found, sharesPixel, openedByWindow}
+use Rattle.pktree.proofs.Arranged.{Arranged, LocallyRight, arranged-le}
+use Rattle.pktree.proofs.Forests.{blockCount, length-blocks, pixels-join, blocks-join}
+use Rattle.pktree.proofs.Windows.{shares-pixel-exactly}
+use Rattle.query.specs.Counting.{foundIn}
+
+-- a list and what passes a test of it
+cond-append : {A : Type 0} (b : Bool) (a : A) (l r : List A) → cond b (a ∷ (l ++ r)) (l ++ r) ≡ cond b (a ∷ l) l ++ r
+cond-append true a l r = refl
+cond-append false a l r = refl
+
+select-join : {A : Type 0} (test : A → Bool) (l r : List A) → select test (l ++ r) ≡ select test l ++ select test r
+select-join test [] r = refl
+select-join test (a ∷ l) r = rw (select-join test l r) (cond-append (test a) a (select test l) (select test r))
+
+cond-short : {A : Type 0} (b : Bool) (a : A) (l : List A) (n : ℕ) → length l ≤ n → length (cond b (a ∷ l) l) ≤ suc n
+cond-short true a l n h = omega arith
+cond-short false a l n h = omega arith
+
+select-short : {A : Type 0} (test : A → Bool) (l : List A) → length (select test l) ≤ length l
+select-short test [] = omega arith
+select-short test (a ∷ l) = cond-short (test a) a (select test l) (length l) (select-short test l)
+
+pub found-few : (window : Window) (set : List ℕ) → length (found window set) ≤ length set
+found-few window set = select-short (inWindow window) set
+
+pub opened-few : (window : Window) (f : Forest) → openedByWindow window f ≤ blockCount f
+opened-few window f = omega (arith, select-short (sharesPixel window) (blocks f), length-blocks f)
+
+-- joined elements
+pub found-join : (window : Window) (f g : Forest) → found window (pixels (f ⧺ g)) ≡ found window (pixels f) ++ found window (pixels g)
+found-join window f g = rw (pixels-join f g) (select-join (inWindow window) (pixels f) (pixels g))
+
+pub found-in-join : (window : Window) (f g : Forest) → foundIn window (f ⧺ g) ≡ foundIn window f + foundIn window g
+found-in-join window f g = rw (found-join window f g) (length-append (found window (pixels f)) (found window (pixels g)))
+
+pub opened-join : (window : Window) (f g : Forest) → openedByWindow window (f ⧺ g) ≡ openedByWindow window f + openedByWindow window g
+opened-join window f g =
+    rw (blocks-join f g, select-join (sharesPixel window) (blocks f) (blocks g))
+    (length-append (select (sharesPixel window) (blocks f)) (select (sharesPixel window) (blocks g)))
+
+-- no code of this run is in the window
+abbrev Outside : Window → ℕ → ℕ → Type 0
+Outside window from to = (code : ℕ) → from ≤ code → code < to → inWindow window code ≡ true → ⊥
+
+false-unless : (b : Bool) → (b ≡ true → ⊥) → b ≡ false
+false-unless true h = absurd (h refl)
+false-unless false h = refl
+
+-- then nothing that lies in the run is found or opened
+nothing-outside : (window : Window) (k n from to : ℕ) (f : Forest) → Arranged k n from to f → Outside window from to
+    → (found window (pixels f) ≡ []) × (select (sharesPixel window) (blocks f) ≡ [])
+nothing-outside window k n from to empty h out = (refl, refl)
+nothing-outside window k n from to (pixel c f) h out =
+    let rest = nothing-outside window k n (suc c) to f (h .1) (λ code p q. out code (omega arith) q) in
+    let no : inWindow window c ≡ false = false-unless _ (out c (h .0) (omega (arith, arranged-le k n (suc c) to f (h .1)))) in
+    (rw no (rest .0), rest .1)
+nothing-outside window k n from to (block i c es f) h out =
+    let end = arranged-le k n (c + 4 ^ i) to f (h .7) in
+    let inside = nothing-outside window k i c (c + 4 ^ i) es (h .6) (λ code p q. out code (omega arith) (omega arith)) in
+    let rest = nothing-outside window k n (c + 4 ^ i) to f (h .7) (λ code p q. out code (omega arith) q) in
+    let no : sharesPixel window (blockOf i c es) ≡ false =
+    false-unless _ (λ t. let s = shares-pixel-exactly window (blockOf i c es) .0 t in out (s .0) (omega (arith, s .1)) (omega (arith, s .2)) (s .3)) in (
+      select-join (inWindow window) (pixels es) (pixels f) ∙ ap₂ _++_ (inside .0) (rest .0),
+      rw no (select-join (sharesPixel window) (blocks es) (blocks f) ∙ ap₂ _++_ (inside .1) (rest .1)),
+    )
+
+-- a block that has no pixel in common with the window
+pub record NothingSeen (window : Window) (f : Forest) : Type 0 where
+  pub none-found : found window (pixels f) ≡ []
+  pub none-opened : openedByWindow window f ≡ 0
+
+pub block-apart
+    : (window : Window) (k i c : ℕ) (es : Forest) → LocallyRight k i c es → sharesPixel window (blockOf i c es) ≡ false → NothingSeen window (block i c es empty)
+block-apart window k i c es right e =
+    let shares = shares-pixel-exactly window (blockOf i c es) in
+    let inside = nothing-outside window k i c (c + 4 ^ i) es (right .arranged) (λ code p q t. false≢true (sym e ∙ shares .1 (code, p, q, t))) in
+    record { none-found = rw (append-nil (pixels es)) (inside .0); none-opened = rw (e, append-nil (blocks es)) (ap length (inside .1)) }
+
+-- a block that has one is opened, and its elements are looked at
+pub record OneOpened (window : Window) (f es : Forest) : Type 0 where
+  pub same-found : found window (pixels f) ≡ found window (pixels es)
+  pub one-opened : openedByWindow window f ≡ suc (openedByWindow window es)
+
+pub block-opened : (window : Window) (i c : ℕ) (es : Forest) → sharesPixel window (blockOf i c es) ≡ true → OneOpened window (block i c es empty) es
+block-opened window i c es e = record { same-found = rw (append-nil (pixels es)); one-opened = rw (e, append-nil (blocks es)) }

@@ -1,0 +1,5 @@
+pub mod Asking
+pub mod Corners
+pub mod Counting
+pub mod Listing
+pub mod Saving

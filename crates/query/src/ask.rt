@@ -1,0 +1,27 @@
+ghost use Prim.Native.Nat.{_^_, _<_};
+ghost use mathlib.Core.Path.{_≡_};
+ghost use Rattle.store.specs.Sizes.{UsableStore, sizesOf};
+ghost use Rattle.query.specs.Asking.{AskAnswer};
+use descent::locate;
+use store::sizes::Sizes;
+use store::sizes::layout_of;
+
+pub enum Asked {
+    Known { marked: bool, opened: usize },
+    Damaged,
+}
+
+// 01's ask, where refusals 3 and 4 do not apply: the blocks of the path are those opened.
+pub fn ask(store: &[u32], sizes: Sizes, code: u32) -> Asked
+    requires { ⌜ (UsableStore (now store) × (sizes ≡ sizesOf (now store))) × (code < 4 ^ sizes .order) ⌝ }
+    ensures { λ r. ⌜ AskAnswer (now (store .entry)) code r ⌝ }
+{
+    let located = locate(store, layout_of(sizes), sizes.order, code);
+    if located.damaged {
+        return Asked::Damaged;
+    }
+    Asked::Known {
+        marked: located.marked,
+        opened: located.depth + 1,
+    }
+}

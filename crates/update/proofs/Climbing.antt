@@ -1,0 +1,147 @@
+-- The loop of `settle`: the change is pending in the block that the path names, in every setting in which it was so at the start.
+use Prim.Native.Nat.{ℕ, zero, suc, _+_, _-_, _*_, _≤_, _<_}
+use native.Mathlib.Omega.{arith}
+use mathlib.Core.Path.{_≡_, refl, ap, subst, sym, _∙_}
+use mathlib.Core.Bool.{Bool, true, false}
+use mathlib.Core.List.{List, [], _∷_}
+use lib.Dec.{eqb}
+use lib.ListN.{length, getD, take}
+use borrow.Author.Tests.{eqb-true, eqb-false}
+use Rattle.pktree.specs.Elements.{size}
+use Rattle.store.specs.declared.sizes.Layout.{Layout}
+use Rattle.store.specs.Layout.{LayoutFits}
+use Rattle.store.specs.Placed.{Placed, nothing, blockThen, forestOf, _⧻_}
+use Rattle.store.proofs.PlacedJoin.{size-placed-join}
+use Rattle.descent.specs.Way.{Frame}
+use Rattle.descent.specs.Located.{PathNames}
+use Rattle.change.proofs.Pending.{Setting, Pending}
+use Rattle.change.proofs.Settled.{Settled}
+use Rattle.update.specs.declared.step.Change.{Change}
+use Rattle.update.specs.declared.step.Stepped.{Stepped}
+use Rattle.update.specs.declared.step.Stepped.the-variants.{Done, Up, Damaged}
+use Rattle.update.specs.Step.{Kept, InSetting, PendingAbove, SteppedRight, StepMeets}
+use Rattle.update.specs.Settle.{PendingAt, OfChange}
+
+-- what holds at each turn, on any words
+pub record InBounds (change : Change) (path words scratch : List ℕ) (depth slot place out coming : ℕ) : Type 0 where
+  pub fits : LayoutFits (change .layout) words
+  pub scratch-long : length scratch ≡ 32
+  pub slot-below : slot < change .layout .slots
+  pub place-to : place ≤ 75
+  pub out-to : out ≤ 1
+  pub coming-to : coming ≤ 16
+  pub deep : depth ≤ 16
+  pub path-below : (i : ℕ) → i < depth → getD path i 0 < change .layout .slots
+
+-- and in each setting
+abbrev pub Carried : Change → List ℕ → List ℕ → List ℕ → ℕ → ℕ → ℕ → ℕ → ℕ → List ℕ → List ℕ → ℕ → ℕ → ℕ → ℕ → ℕ → Type 0
+Carried change path places before depth₀ slot₀ place₀ out₀ coming₀ words scratch depth slot place out coming =
+    (σ : Setting) → OfChange σ change → PendingAt σ before path places depth₀ slot₀ place₀ out₀ coming₀ (change .code ∷ 0 ∷ [])
+    → PendingAt σ words path places depth slot place out coming scratch
+
+pub kept-then : (layout : Layout) (a b c : List ℕ) → Kept layout a b → Kept layout b c → Kept layout a c
+kept-then layout a b c p q = record { long = q .long ∙ p .long; head = q .head ∙ p .head; past = q .past ∙ p .past }
+
+pub fits-kept : (layout : Layout) (a b : List ℕ) → Kept layout a b → LayoutFits layout a → LayoutFits layout b
+fits-kept layout a b k f = record { within = f .within; lies = omega (arith, k .long, f .lies) }
+
+-- the root is where the path has no block left
+in-setting : (σ : Setting) (change : Change) (depth : ℕ) (way : List Frame) → OfChange σ change → depth ≡ length way → InSetting σ change (eqb depth 0) way
+in-setting σ change depth way o e =
+    record {
+      layout-is = o .layout-is;
+      k-is = o .k-is;
+      x-is = o .x-is;
+      root-is = ((λ t. none way (omega (arith, eqb-true depth 0 t))), (λ t z. eqb-false depth 0 t (e ∙ ap length z)));
+    }
+  where
+    none : (w : List Frame) → length w ≡ 0 → w ≡ []
+    none [] n = refl
+    none (f ∷ w) n = absurd (omega arith)
+
+module _ (change : Change) (path places words scratch after scratch′ : List ℕ) (depth slot place out coming : ℕ) (r : Stepped)
+    (m : StepMeets change (eqb depth 0) slot place out coming words after scratch scratch′ r) where
+  -- what the step leaves in a setting
+  stepped : (σ : Setting) → OfChange σ change → (p : PendingAt σ words path places depth slot place out coming scratch) → SteppedRight σ after scratch′ (p .way) slot r
+  stepped σ o p =
+      m .right σ (p .way) (p .level) (p .code) (p .a) (p .old) (p .new) (p .b) (p .free) (in-setting σ change depth (p .way) o (p .depth-is)) (p .place-is) (p .removed-is) (p .inserted-is)
+      (p .scratch-is) (p .pending)
+
+  pub rests : r ≡ Done → (σ : Setting) → OfChange σ change → PendingAt σ words path places depth slot place out coming scratch → Settled σ after
+  rests e σ o p = subst (SteppedRight σ after scratch′ (p .way) slot) e (stepped σ o p)
+
+  pub never-damaged : r ≡ Damaged → (σ : Setting) → OfChange σ change → PendingAt σ words path places depth slot place out coming scratch → ⊥
+  never-damaged e σ o p = subst (SteppedRight σ after scratch′ (p .way) slot) e (stepped σ o p)
+
+  above : (n : ℕ) → r ≡ Up n → (σ : Setting) → OfChange σ change → (p : PendingAt σ words path places depth slot place out coming scratch)
+      → SteppedRight σ after scratch′ (p .way) slot (Up n)
+  above n e σ o p = subst (SteppedRight σ after scratch′ (p .way) slot) e (stepped σ o p)
+
+  pub never-above-root : (n : ℕ) → r ≡ Up n → depth ≡ 0 → (σ : Setting) → OfChange σ change → PendingAt σ words path places depth slot place out coming scratch → ⊥
+  never-above-root n e z σ o p = go (p .way) (sym (p .depth-is) ∙ z) (above n e σ o p)
+    where
+      go : (w : List Frame) → length w ≡ 0 → SteppedRight σ after scratch′ w slot (Up n) → ⊥
+      go [] q s = s
+      go (f ∷ w) q s = absurd (omega arith)
+
+  -- one block further up
+  pub climbs : (n : ℕ) → r ≡ Up n → (σ : Setting) → OfChange σ change → PendingAt σ words path places depth slot place out coming scratch → 0 < depth
+      → PendingAt σ after path places (depth - 1) (getD path (depth - 1) 0) (getD places (depth - 1) 0) 1 n scratch′
+  climbs n e σ o p pos = go (p .way) (p .depth-is) (p .names) (above n e σ o p)
+    where
+      go : (w : List Frame) → depth ≡ length w → PathNames path places w → SteppedRight σ after scratch′ w slot (Up n)
+          → PendingAt σ after path places (depth - 1) (getD path (depth - 1) 0) (getD places (depth - 1) 0) 1 n scratch′
+      go [] d names s = absurd s
+      go (f ∷ w) d names s =
+          let q : depth - 1 ≡ length w = omega arith in
+          let es : getD path (depth - 1) 0 ≡ f .slot = ap (λ (i : ℕ). getD path i 0) q ∙ names .0 in
+          let ep : getD places (depth - 1) 0 ≡ size (forestOf (f .before)) = ap (λ (i : ℕ). getD places i 0) q ∙ names .1 in
+          record {
+            way = w;
+            level = f .level;
+            code = f .code;
+            a = f .before;
+            old = blockThen slot (s .level) (s .code) nothing nothing;
+            new = s .left;
+            b = f .after;
+            free = s .free;
+            depth-is = q;
+            names = names .2;
+            place-is = sym ep;
+            removed-is = refl;
+            inserted-is = s .count-is;
+            scratch-is = s .scratch-is;
+            pending = subst (λ (t : ℕ). Pending σ after w t (f .level) (f .code) (f .before) (blockThen slot (s .level) (s .code) nothing nothing) (s .left) (f .after) (s .free)) (sym es) (s .pending);
+          }
+
+-- a place in a block of a register is far below what a slot can hold
+pub place-small : (σ : Setting) (words path places : List ℕ) (depth slot place out coming : ℕ) (scratch : List ℕ) → PendingAt σ words path places depth slot place out coming scratch → place ≤ 75
+place-small σ words path places depth slot place out coming scratch p =
+    omega (arith, p .place-is, p .pending .was-fit, σ .k-to, size-placed-join (p .a) (p .old ⧻ p .b))
+
+-- the scratch words at the start have the pixel
+pub begins : (σ : Setting) (words path places : List ℕ) (depth slot place out coming : ℕ) (scratch scratch′ : List ℕ) → coming ≤ 1 → take 2 scratch ≡ take 2 scratch′
+    → PendingAt σ words path places depth slot place out coming scratch → PendingAt σ words path places depth slot place out coming scratch′
+begins σ words path places depth slot place out coming scratch scratch′ h e p =
+    record {
+      way = p .way;
+      level = p .level;
+      code = p .code;
+      a = p .a;
+      old = p .old;
+      new = p .new;
+      b = p .b;
+      free = p .free;
+      depth-is = p .depth-is;
+      names = p .names;
+      place-is = p .place-is;
+      removed-is = p .removed-is;
+      inserted-is = p .inserted-is;
+      scratch-is = same coming h ∙ p .scratch-is;
+      pending = p .pending;
+    }
+  where
+    same : (n : ℕ) → n ≤ 1 → take (2 * n) scratch′ ≡ take (2 * n) scratch
+    same zero q = refl
+    same (suc zero) q = sym e
+    same (suc (suc n)) q = absurd (omega arith)

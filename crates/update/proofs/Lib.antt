@@ -1,0 +1,7 @@
+pub mod BlockSizes
+pub mod PutLaws
+pub mod PlacedWords
+pub mod StepLaws
+pub mod RegroupEnds
+pub mod StepEnds
+pub mod Climbing
