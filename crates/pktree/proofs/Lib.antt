@@ -6,6 +6,7 @@ pub mod Arranged
 pub mod LocalLaw
 pub mod Sizes
 pub mod Pixels
+pub mod SetChanges
 pub mod EntryOrder
 pub mod BlockNumber
 pub mod Regroup

@@ -5,3 +5,5 @@ pub mod StepLaws
 pub mod RegroupEnds
 pub mod StepEnds
 pub mod Climbing
+pub mod ChangeBegins
+pub mod ChangeEnds

@@ -1,0 +1,50 @@
+-- 01 "Who is refused, and how": 3, 4 and 8, in this order, each with its condition.
+use Prim.Native.Nat.{ℕ, _^_, _≤_, _<_}
+use mathlib.Core.Path.{_≡_}
+use mathlib.Core.Logic.{_⊎_}
+use mathlib.Core.List.{List}
+use Rattle.morton.specs.Code.{codeOf}
+use Rattle.pktree.specs.Panel.{HasPixel}
+use Rattle.store.specs.declared.sizes.Sizes.{Sizes}
+use Rattle.store.specs.Sizes.{panelOf, sizesOf, UsableStore}
+use Rattle.refusals.specs.declared.PixelJudged.{PixelJudged}
+use Rattle.refusals.specs.declared.PixelJudged.the-variants as pixel
+use Rattle.refusals.specs.declared.WindowJudged.{WindowJudged}
+use Rattle.refusals.specs.declared.WindowJudged.the-variants as window
+
+-- the pixel is on the store's panel
+abbrev pub HasPixelOn : List ℕ → ℕ → ℕ → Type 0
+HasPixelOn words x y = HasPixel (panelOf (sizesOf words)) x y
+
+pub record PixelGiven (words : List ℕ) (x y : ℕ) (sizes : Sizes) (code : ℕ) : Type 0 where
+  pub usable : UsableStore words
+  pub sizes-are : sizes ≡ sizesOf words
+  pub on-panel : HasPixelOn words x y
+  pub code-is : code ≡ codeOf x y
+  pub code-below : code < 4 ^ sizes .order
+
+abbrev pub PixelRefused : List ℕ → ℕ → ℕ → ℕ → Type 0
+PixelRefused words x y n = ((n ≡ 3) × (UsableStore words → ⊥)) ⊎ ((n ≡ 4) × UsableStore words × (HasPixelOn words x y → ⊥))
+
+abbrev pub JudgedPixel : List ℕ → ℕ → ℕ → PixelJudged → Type 0
+JudgedPixel words x y (pixel.Pixel sizes code) = PixelGiven words x y sizes code
+JudgedPixel words x y (pixel.Refused n) = PixelRefused words x y n
+
+-- both corners are on the store's panel
+abbrev pub CornersOn : List ℕ → ℕ → ℕ → ℕ → ℕ → Type 0
+CornersOn words x0 y0 x1 y1 = HasPixelOn words x0 y0 × HasPixelOn words x1 y1
+
+pub record WindowGiven (words : List ℕ) (x0 y0 x1 y1 : ℕ) (sizes : Sizes) : Type 0 where
+  pub usable : UsableStore words
+  pub sizes-are : sizes ≡ sizesOf words
+  pub on-panel : CornersOn words x0 y0 x1 y1
+  pub ordered : (x0 ≤ x1) × (y0 ≤ y1)
+
+abbrev pub WindowRefused : List ℕ → ℕ → ℕ → ℕ → ℕ → ℕ → Type 0
+WindowRefused words x0 y0 x1 y1 n =
+    ((n ≡ 3) × (UsableStore words → ⊥)) ⊎ ((n ≡ 4) × UsableStore words × (CornersOn words x0 y0 x1 y1 → ⊥))
+    ⊎ ((n ≡ 8) × UsableStore words × CornersOn words x0 y0 x1 y1 × ((x0 ≤ x1) × (y0 ≤ y1) → ⊥))
+
+abbrev pub JudgedWindow : List ℕ → ℕ → ℕ → ℕ → ℕ → WindowJudged → Type 0
+JudgedWindow words x0 y0 x1 y1 (window.Window sizes) = WindowGiven words x0 y0 x1 y1 sizes
+JudgedWindow words x0 y0 x1 y1 (window.Refused n) = WindowRefused words x0 y0 x1 y1 n

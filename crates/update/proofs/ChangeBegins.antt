@@ -1,0 +1,247 @@
+-- A change begins: a pixel put between two elements of the smallest block that holds it, or taken out there, is pending in that block.
+use Prim.Native.Nat.{ℕ, zero, suc, _+_, _-_, _*_, _/_, _^_, _≤_, _<_}
+use native.Mathlib.Omega.{arith}
+use mathlib.Core.Path.{_≡_, refl, ap, subst, sym, _∙_}
+use mathlib.Core.Bool.{true, false}
+use mathlib.Core.List.{List, [], _∷_, _++_, append-assoc}
+use lib.ListN.{length, getD, take, length-append}
+use Rattle.pktree.specs.Panel.{Aligned}
+use Rattle.pktree.specs.Elements.{Forest, pixel, block, _⧺_, size}
+use Rattle.pktree.specs.Tree.{pixels}
+use Rattle.pktree.proofs.Forests.{pixels-join}
+use Rattle.pktree.proofs.Counting.{sparse-below}
+use Rattle.pktree.proofs.Arranged.{quarterLevel, Arranged, LocallyRight}
+use Rattle.pktree.proofs.Regroup.{Disturbed}
+use Rattle.pktree.proofs.Edits.{put-in, take-out}
+use Rattle.store.specs.Sizes.{slotWidth, slotCount, sizesOf, UsableStore}
+use Rattle.store.specs.Layout.{layoutOf}
+use Rattle.store.specs.Slot.{slotPart}
+use Rattle.store.specs.Placed.{Placed, nothing, pixelThen, blockThen, _⧻_, forestOf, slotsOf}
+use Rattle.store.specs.FreeSlots.{occurrences}
+use Rattle.store.specs.Sound.{Sound}
+use Rattle.store.proofs.Standing.{elementWords, SlotSays, Stands}
+use Rattle.store.proofs.PlacedJoin.{forest-join, slots-join, size-placed-join, stands-join, stands-parts}
+use Rattle.store.proofs.FreeChains.{occurrences-join}
+use Rattle.descent.specs.declared.Located.{Located}
+use Rattle.descent.specs.Way.{Frame, plug}
+use Rattle.descent.specs.Located.{LocatedIn}
+use Rattle.change.proofs.FramesOfSound.{OnWay, on-way}
+use Rattle.change.proofs.SlotCounts.{waySlots, plug-slots, shared-moves}
+use Rattle.change.proofs.HandUp.{right-size}
+use Rattle.change.proofs.Pending.{Setting}
+use Rattle.update.specs.Settle.{PendingAt}
+
+module _ (k c x : ℕ) (h : 2 ≤ k) (above : c ≤ x) where
+  -- elements that are right are right but perhaps around x
+  disturbed-if-right : (l : ℕ) (es : Forest) → Aligned (suc l) c → x < c + 4 ^ suc l → LocallyRight k (suc l) c es → Disturbed k l c x es
+  disturbed-if-right l es aligned below r =
+      record {
+        aligned = aligned;
+        above = above;
+        below = below;
+        arranged = r .arranged;
+        others = λ j q p ne. sparse-below k j l es p (r .sparse) q;
+        most = omega (arith, r .sparse (x / 4 ^ l));
+      }
+
+  -- a pixel put into a block, and one taken out
+  put-disturbs : (n : ℕ) (a b : Forest) → 1 ≤ n → Aligned n c → x < c + 4 ^ n → LocallyRight k n c (a ⧺ b) → Arranged k n c x a → Arranged k n (suc x) (c + 4 ^ n) b
+      → Disturbed k (quarterLevel n) c x (a ⧺ pixel x b)
+  put-disturbs zero a b one aligned below r u v = absurd (omega arith)
+  put-disturbs (suc l) a b one aligned below r u v = put-in k l c x h aligned above below (a ⧺ b) a b refl r u v
+
+  take-disturbs : (n : ℕ) (a b : Forest) → 1 ≤ n → Aligned n c → x < c + 4 ^ n → LocallyRight k n c (a ⧺ pixel x b) → Arranged k n c x a → Arranged k n (suc x) (c + 4 ^ n) b
+      → Disturbed k (quarterLevel n) c x (a ⧺ b)
+  take-disturbs zero a b one aligned below r u v = absurd (omega arith)
+  take-disturbs (suc l) a b one aligned below r u v =
+      disturbed-if-right l (a ⧺ b) aligned below (take-out k l c x h aligned above below (a ⧺ pixel x b) a b refl r u v)
+
+-- the pixels of a plugged tree: those inside stand between those before the way's end and those after it
+plug-around : (way : List Frame) → (l : List ℕ) × (r : List ℕ) × ((s i d : ℕ) (es : Placed) → pixels (forestOf (plug way s i d es)) ≡ l ++ (pixels (forestOf es) ++ r))
+plug-around [] = ([], [], (λ s i d es. refl))
+plug-around (f ∷ way) =
+    let (l, r, e) = plug-around way in
+    let p : List ℕ = pixels (forestOf (f .before)) in
+    let q : List ℕ = pixels (forestOf (f .after)) in (
+      l ++ p,
+      q ++ r,
+      (λ s i d es.
+          e (f .slot) (f .level) (f .code) (f .before ⧻ blockThen s i d es (f .after))
+          ∙ ap (λ (t : List ℕ). l ++ (t ++ r)) (ap pixels (forest-join (f .before) (blockThen s i d es (f .after))) ∙ pixels-join (forestOf (f .before)) (block i d (forestOf es) (forestOf (f .after))))
+          ∙ simp append-assoc),
+    )
+
+-- the setting of a change at x on a store, for the set to come
+abbrev pub settingOf : (words : List ℕ) → UsableStore words → (x : ℕ) (target : List ℕ) → length target ≤ getD words 3 0 → Setting
+settingOf words usable x target few =
+    record {
+      layout = layoutOf (sizesOf words);
+      k = getD words 2 0;
+      m = getD words 1 0;
+      most = getD words 3 0;
+      x = x;
+      target = target;
+      k-from = usable .valid .panel .k-from;
+      k-to = usable .valid .panel .k-to;
+      m-to = usable .valid .panel .order-to;
+      most-from = usable .valid .most-from;
+      few = few;
+      width-is = refl;
+      slots-is = refl;
+    }
+
+-- elements between those around the way's end
+between-pixels : (way : List Frame) (a b : Placed)
+    → (l : List ℕ) × (r : List ℕ) × ((s i d : ℕ) (t : Placed) → pixels (forestOf (plug way s i d (a ⧻ (t ⧻ b)))) ≡ l ++ (pixels (forestOf t) ++ r))
+between-pixels way a b =
+    let (l, r, e) = plug-around way in
+    let p : List ℕ = pixels (forestOf a) in
+    let q : List ℕ = pixels (forestOf b) in (
+      l ++ p,
+      q ++ r,
+      (λ s i d t.
+          e s i d (a ⧻ (t ⧻ b))
+          ∙ ap (λ (u : List ℕ). l ++ (u ++ r)) (ap pixels (forest-join a (t ⧻ b)) ∙ pixels-join (forestOf a) (forestOf (t ⧻ b)) ∙ ap (λ (u : List ℕ). p ++ u) (ap pixels (forest-join t b) ∙ pixels-join (forestOf t) (forestOf b)))
+          ∙ simp append-assoc),
+    )
+
+-- what gives way or comes: nothing, or the pixel of the code
+record AtMostPixel (code : ℕ) (t : Placed) : Type 0 where
+  one : size (forestOf t) ≤ 1
+  slots : slotsOf t ≡ []
+  stands : (width : ℕ) (words : List ℕ) → Stands width words t
+  named : take (2 * size (forestOf t)) (code ∷ 0 ∷ []) ≡ elementWords t
+
+no-pixel : (code : ℕ) → AtMostPixel code nothing
+no-pixel code = record { one = omega arith; slots = refl; stands = λ width words. tt; named = refl }
+
+one-pixel : (code : ℕ) → AtMostPixel code (pixelThen code nothing)
+one-pixel code = record { one = omega arith; slots = refl; stands = λ width words. tt; named = refl }
+
+-- pixels have no slots
+same-slots : (code : ℕ) (a b old new : Placed) → AtMostPixel code old → AtMostPixel code new → slotsOf (a ⧻ (new ⧻ b)) ≡ slotsOf (a ⧻ (old ⧻ b))
+same-slots code a b old new o n =
+    slots-join a (new ⧻ b) ∙ ap (λ (l : List ℕ). slotsOf a ++ l) (slots-join new b ∙ ap (λ (l : List ℕ). l ++ slotsOf b) (n .slots ∙ sym (o .slots)) ∙ sym (slots-join old b))
+    ∙ sym (slots-join a (old ⧻ b))
+
+-- the change is pending: where the pixels of `old` stood among those of the set, those of `new` are to stand
+pub record Begins (words : List ℕ) (usable : UsableStore words) (set : List ℕ) (code : ℕ) (located : Located) (old new : Placed) : Type 0 where
+  pub left : List ℕ
+  pub right : List ℕ
+  pub set-was : set ≡ left ++ (pixels (forestOf old) ++ right)
+  pub few : length (left ++ (pixels (forestOf new) ++ right)) ≤ getD words 3 0
+  pub pending : PendingAt (settingOf words usable code (left ++ (pixels (forestOf new) ++ right)) few) words (located .slots) (located .places) (located .depth) (located .slot) (located .place)
+      (size (forestOf old)) (size (forestOf new)) (code ∷ 0 ∷ [])
+
+module _ (words : List ℕ) (placed : Placed) (sound : Sound words placed) (code : ℕ) (located : Located) (h : LocatedIn words placed code located) where
+  abbrev k : ℕ
+  k = getD words 2 0
+
+  abbrev width : ℕ
+  width = slotWidth (getD words 2 0)
+
+  abbrev a : Placed
+  a = h .place .before
+
+  abbrev b : Placed
+  b = h .place .after
+
+  there : OnWay words placed sound (h .way) (located .slot) (located .level) (located .block) (h .es)
+  there = on-way words placed sound (h .way) (located .slot) (located .level) (located .block) (h .es) (h .whole)
+
+  begins : (old new : Placed) → AtMostPixel code old → AtMostPixel code new → h .es ≡ a ⧻ (old ⧻ b)
+      → Disturbed k (quarterLevel (located .level)) (located .block) code (forestOf (a ⧻ (new ⧻ b)))
+      → length (pixels (forestOf placed)) + length (pixels (forestOf new)) ≤ length (pixels (forestOf old)) + getD words 3 0
+      → Begins words (sound .usable) (pixels (forestOf placed)) code located old new
+  begins old new o n e disturbed room =
+      let (l, r, pix) = between-pixels (h .way) a b in
+      let target : List ℕ = l ++ (pixels (forestOf new) ++ r) in
+      let whole : placed ≡ plug (h .way) (located .slot) (located .level) (located .block) (a ⧻ (old ⧻ b)) =
+      h .whole ∙ ap (plug (h .way) (located .slot) (located .level) (located .block)) e in
+      let was : pixels (forestOf placed) ≡ l ++ (pixels (forestOf old) ++ r) = ap (λ (t : Placed). pixels (forestOf t)) whole ∙ pix (located .slot) (located .level) (located .block) old in
+      let stands = stands-parts width words a (old ⧻ b) (subst (Stands width words) e (there .view .stands)) in
+      let fit : size (forestOf (a ⧻ (old ⧻ b))) ≤ 4 * (k - 1) =
+      subst (λ (t : Placed). size (forestOf t) ≤ 4 * (k - 1)) e
+      (right-size k (located .level) (located .block) (forestOf (h .es)) (sound .usable .valid .panel .k-from) (there .view .aligned) (there .view .right)) in
+      record {
+        left = l;
+        right = r;
+        set-was = was;
+        few = omega (
+          arith,
+          ap length was,
+          length-append l (pixels (forestOf old) ++ r),
+          length-append (pixels (forestOf old)) r,
+          length-append l (pixels (forestOf new) ++ r),
+          length-append (pixels (forestOf new)) r,
+        );
+        pending = record {
+          way = h .way;
+          level = located .level;
+          code = located .block;
+          a = a;
+          old = old;
+          new = new;
+          b = b;
+          free = sound .free;
+          depth-is = h .depth;
+          names = h .names;
+          place-is = h .place .place-is;
+          removed-is = refl;
+          inserted-is = refl;
+          scratch-is = n .named;
+          pending = record {
+            around = record {
+              frames-right = there .right;
+              frames-stand = there .stand;
+              stands = stands-join width words a (new ⧻ b) (stands .0) (stands-join width words new b (n .stands width words) (stands-parts width words old b (stands .1) .1));
+              level-from = there .view .level-from;
+              disturbed = disturbed;
+              fits = omega (
+                arith,
+                sound .usable .valid .panel .k-from,
+                n .one,
+                size-placed-join a (new ⧻ b),
+                size-placed-join new b,
+                size-placed-join a (old ⧻ b),
+                size-placed-join old b,
+              );
+              free-chain = sound .chain;
+              shared = shared-moves (slotCount k (getD words 3 0)) (slotsOf placed) (sound .free) (waySlots (h .way) ++ (located .slot ∷ slotsOf (a ⧻ (new ⧻ b)))) (sound .free) (sound .shared)
+                  (λ t. omega (
+                    arith,
+                    ap (λ (u : Placed). occurrences t (slotsOf u)) whole,
+                    plug-slots t (h .way) (located .slot) (located .level) (located .block) (a ⧻ (old ⧻ b)),
+                    ap (λ (l : List ℕ). occurrences t (located .slot ∷ l)) (same-slots code a b old new o n),
+                    occurrences-join t (slotsOf placed) (sound .free),
+                    occurrences-join t (waySlots (h .way) ++ (located .slot ∷ slotsOf (a ⧻ (new ⧻ b)))) (sound .free),
+                    occurrences-join t (waySlots (h .way)) (located .slot ∷ slotsOf (a ⧻ (new ⧻ b))),
+                  ));
+              pixels-are = pix (located .slot) (located .level) (located .block) new;
+            };
+            says = subst (SlotSays (slotPart width words (located .slot)) (located .level) (located .block)) e (there .view .says);
+            was-fit = fit;
+          };
+        };
+      }
+
+  -- the pixel is to be put in, with room for it
+  pub mark-begins : located .marked ≡ false → length (pixels (forestOf placed)) < getD words 3 0
+      → Begins words (sound .usable) (pixels (forestOf placed)) code located nothing (pixelThen code nothing)
+  mark-begins out room =
+      let e : h .es ≡ a ⧻ b = h .place .is .1 out in
+      begins nothing (pixelThen code nothing) (no-pixel code) (one-pixel code) e
+      (rw (forest-join a (pixelThen code b)) (put-disturbs k (located .block) code (sound .usable .valid .panel .k-from) (h .holds .0) (located .level) (forestOf a) (forestOf b)
+      (there .view .level-from) (there .view .aligned) (h .holds .1) (subst (LocallyRight k (located .level) (located .block)) (ap forestOf e ∙ forest-join a b) (there .view .right))
+      (h .place .below) (h .place .above)))
+      (omega arith)
+
+  -- the pixel is to be taken out
+  pub clear-begins : located .marked ≡ true → Begins words (sound .usable) (pixels (forestOf placed)) code located (pixelThen code nothing) nothing
+  clear-begins in-set =
+      let e : h .es ≡ a ⧻ pixelThen code b = h .place .is .0 in-set in
+      begins (pixelThen code nothing) nothing (one-pixel code) (no-pixel code) e
+      (rw (forest-join a b) (take-disturbs k (located .block) code (sound .usable .valid .panel .k-from) (h .holds .0) (located .level) (forestOf a) (forestOf b)
+      (there .view .level-from) (there .view .aligned) (h .holds .1) (subst (LocallyRight k (located .level) (located .block)) (ap forestOf e ∙ forest-join a (pixelThen code b)) (there .view .right))
+      (h .place .below) (h .place .above)))
+      (omega (arith, sound .fits))

@@ -1,0 +1,83 @@
+-- `update::marks::clear` meets its contract: nothing is written before every refusal is decided, and what settles is the set without the pixel.
+use native.Mathlib.Omega.{arith}
+use mathlib.Core.Path.{refl}
+use borrow.Author.Needs.{needs}
+use borrow.Author.Tests.{not-true, not-false}
+use Rattle.store.proofs.Usable.{layout-fits}
+use Rattle.update.proofs.RegroupEnds.{kept-same}
+use Rattle.update.proofs.ChangeEnds.{LookedUp, never-damaged, never-uncounted, clear-damaged, clear-unmarked, can-settle, clear-never-fails, clear-settled}
+use Rattle.update.proofs.marks.clear.Statement.{statement}
+use Rattle.update.proofs.marks.clear.Tie as tie
+
+layout-of-requires : tie.Need-layout-of-requires
+layout-of-requires c κs = rw (c .before .pre .0 .1) (c .before .pre .0 .0 .valid)
+
+locate-requires : tie.Need-locate-requires
+locate-requires c κs =
+    let s = c .before .before .before in (
+      layout-fits (s .args .sizes) _ (s .args .store .now) (s .pre .0 .0) (s .pre .0 .1) (c .before .layout-of .ensures),
+      rw (s .pre .0 .1) (s .pre .0 .0 .valid .panel .order-to),
+    )
+
+looked-up : (c : tie.After-locate) → LookedUp (c .before .before .before .before .args .store .now) (c .before .before .before .before .args .sizes) (c .before .before .layout-of .result) (c .before .before .before .before .args .code) (c .locate .result)
+looked-up c =
+    let s = c .before .before .before .before in
+    record { usable = s .pre .0 .0; sizes-are = s .pre .0 .1; on-panel = s .pre .1; laid = c .before .before .layout-of .ensures; meets = c .locate .ensures }
+
+returns : tie.Need-returns
+returns c = let u = looked-up (c .before) in clear-damaged u (kept-same _ _ _ refl) (never-damaged u (c .if1 .taken))
+
+returns-2 : tie.Need-returns-2
+returns-2 c = let whole = c .before .before in clear-unmarked (looked-up (whole .before)) (whole .if1 .left) (not-true _ (c .if2 .taken))
+
+returns-3 : tie.Need-returns-3
+returns-3 c =
+    let there = c .before .before in
+    let u = looked-up (there .before .before .before) in
+    clear-damaged u (kept-same _ _ _ refl) (never-uncounted u (not-false _ (there .if2 .left)) (c .if3 .taken))
+
+settle-requires : tie.Need-settle-requires
+settle-requires c κs =
+    let whole = c .before .before .before .before .before .before in
+    can-settle (looked-up (whole .before)) (c .before .wide .ensures) (whole .if1 .left) (omega arith) (omega arith)
+
+returns-4 : tie.Need-returns-4
+returns-4 c =
+    let after = c .before .before .before in
+    let there = after .before .before .before .before .before in
+    let u = looked-up (there .before .before .before) in
+    let s = rw (not-true (after .settle .result) (c .if4 .taken)) at (after .settle .ensures) in
+    clear-damaged u (s .kept) (clear-never-fails u (after .before .before .wide .ensures) s (not-false _ (there .if2 .left)))
+
+returns-5 : tie.Need-returns-5
+returns-5 c =
+    let after = c .before .before .before in
+    let there = after .before .before .before .before .before in
+    let whole = there .before .before in
+    let s = rw (not-false (after .settle .result) (c .if4 .left)) at (after .settle .ensures) in
+    clear-settled (looked-up (whole .before)) (after .before .before .wide .ensures) (whole .if1 .left) (not-false _ (there .if2 .left)) s
+
+pub clear-spec : {M : Type 1} → statement M
+clear-spec =
+    tie.close
+    (tie.spec
+    layout-of-requires
+    locate-requires
+    (λ c. search needs)
+    (λ c. search needs)
+    returns
+    (λ c. search needs)
+    returns-2
+    (λ c. search needs)
+    (λ c. search needs)
+    (λ c. search needs)
+    returns-3
+    (λ c κs. search needs)
+    settle-requires
+    (λ c. search needs)
+    (λ c. search needs)
+    returns-4
+    (λ c. search needs)
+    (λ c. search needs)
+    (λ c. search needs)
+    returns-5)

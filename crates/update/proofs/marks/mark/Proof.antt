@@ -1,0 +1,82 @@
+-- `update::marks::mark` meets its contract: nothing is written before every refusal is decided, and what settles is the set with the pixel.
+use native.Mathlib.Omega.{arith}
+use mathlib.Core.Path.{refl}
+use borrow.Author.Needs.{needs}
+use borrow.Author.Tests.{not-true, not-false}
+use Rattle.store.proofs.Usable.{layout-fits}
+use Rattle.update.proofs.RegroupEnds.{kept-same}
+use Rattle.update.proofs.ChangeEnds.{LookedUp, never-damaged, mark-damaged, mark-already, mark-full, can-settle, mark-never-fails, mark-settled}
+use Rattle.update.proofs.marks.mark.Statement.{statement}
+use Rattle.update.proofs.marks.mark.Tie as tie
+
+layout-of-requires : tie.Need-layout-of-requires
+layout-of-requires c κs = rw (c .before .pre .0 .1) (c .before .pre .0 .0 .valid)
+
+locate-requires : tie.Need-locate-requires
+locate-requires c κs =
+    let s = c .before .before .before in (
+      layout-fits (s .args .sizes) _ (s .args .store .now) (s .pre .0 .0) (s .pre .0 .1) (c .before .layout-of .ensures),
+      rw (s .pre .0 .1) (s .pre .0 .0 .valid .panel .order-to),
+    )
+
+looked-up : (c : tie.After-locate) → LookedUp (c .before .before .before .before .args .store .now) (c .before .before .before .before .args .sizes) (c .before .before .layout-of .result) (c .before .before .before .before .args .code) (c .locate .result)
+looked-up c =
+    let s = c .before .before .before .before in
+    record { usable = s .pre .0 .0; sizes-are = s .pre .0 .1; on-panel = s .pre .1; laid = c .before .before .layout-of .ensures; meets = c .locate .ensures }
+
+returns : tie.Need-returns
+returns c = let u = looked-up (c .before) in mark-damaged u (kept-same _ _ _ refl) (never-damaged u (c .if1 .taken))
+
+returns-2 : tie.Need-returns-2
+returns-2 c = mark-already (looked-up (c .before .before)) (c .before .if1 .left) (c .if2 .taken)
+
+returns-3 : tie.Need-returns-3
+returns-3 c =
+    let free = c .before .before .before in
+    mark-full (looked-up (free .before .before)) (free .before .if1 .left) (free .if2 .left) (c .if3 .taken)
+
+settle-requires : tie.Need-settle-requires
+settle-requires c κs =
+    let whole = c .before .before .before .before .before .before in
+    can-settle (looked-up (whole .before)) (c .before .wide .ensures) (whole .if1 .left) (omega arith) (omega arith)
+
+returns-4 : tie.Need-returns-4
+returns-4 c =
+    let after = c .before .before .before in
+    let room = after .before .before .before in
+    let free = room .before .before .before in
+    let u = looked-up (free .before .before) in
+    let s = rw (not-true (after .settle .result) (c .if4 .taken)) at (after .settle .ensures) in
+    mark-damaged u (s .kept) (mark-never-fails u (after .before .before .wide .ensures) s (free .if2 .left) (room .if3 .left))
+
+returns-5 : tie.Need-returns-5
+returns-5 c =
+    let after = c .before .before .before in
+    let room = after .before .before .before in
+    let free = room .before .before .before in
+    let s = rw (not-false (after .settle .result) (c .if4 .left)) at (after .settle .ensures) in
+    mark-settled (looked-up (free .before .before)) (after .before .before .wide .ensures) (free .before .if1 .left) (free .if2 .left) (room .if3 .left) s
+
+pub mark-spec : {M : Type 1} → statement M
+mark-spec =
+    tie.close
+    (tie.spec
+    layout-of-requires
+    locate-requires
+    (λ c. search needs)
+    (λ c. search needs)
+    returns
+    (λ c. search needs)
+    returns-2
+    (λ c. search needs)
+    (λ c. search needs)
+    returns-3
+    (λ c κs. search needs)
+    settle-requires
+    (λ c. search needs)
+    (λ c. search needs)
+    returns-4
+    (λ c. search needs)
+    (λ c. search needs)
+    (λ c. search needs)
+    returns-5)
