@@ -1,1 +1,3 @@
 pub mod Makes
+pub mod Looks
+pub mod Changes

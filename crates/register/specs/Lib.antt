@@ -1,2 +1,10 @@
 pub mod Answer
 pub mod Make
+pub mod Spoiled
+pub mod Ask
+pub mod Count
+pub mod List
+pub mod Save
+pub mod Change
+pub mod Mark
+pub mod Clear

@@ -1,0 +1,35 @@
+-- `register::ask` meets its contract: `judge_pixel` decides the refusals, and the walk's answer is passed on.
+use borrow.Author.Needs.{needs}
+use Rattle.register.proofs.Looks.{ask-refused, ask-known, ask-damaged}
+use Rattle.register.proofs.ask.Statement.{statement}
+use Rattle.register.proofs.ask.Tie as tie
+
+ask-requires : tie.Need-ask-requires
+ask-requires c κs =
+    let p = rw (c .before .sizes .given .1) at (c .before .before .before .judge-pixel .ensures) in
+    ((p .usable, p .sizes-are), p .code-below)
+
+returns : tie.Need-returns
+returns c =
+    let j = c .before .before .before in
+    let a = j .before .before .args in
+    ask-refused (a .store .now) (a .x) (a .y) _ (rw (c .before .number .given .1) at (j .judge-pixel .ensures))
+
+returns-2 : tie.Need-returns-2
+returns-2 c =
+    let s = c .before .before .before .before .before in
+    let j = s .before .before in
+    let a = j .before .before .args in
+    ask-known (a .store .now) (a .x) (a .y) _ _ (rw (s .sizes .given .1) at (j .judge-pixel .ensures)) _ _ (rw (c .before .marked .given .1) at (c .before .before .before .ask .ensures))
+
+returns-3 : tie.Need-returns-3
+returns-3 c =
+    let s = c .before .before .before .before in
+    let j = s .before .before in
+    let a = j .before .before .args in
+    ask-damaged (a .store .now) (a .x) (a .y) _ _ (rw (s .sizes .given .1) at (j .judge-pixel .ensures)) (rw (c .enum-told .given .1) at (c .before .before .ask .ensures))
+
+pub ask-spec : {M : Type 1} → statement M
+ask-spec =
+    tie.close
+    (tie.spec (λ c κs. search needs) (λ c. search needs) (λ c. search needs) ask-requires (λ c. search needs) (λ c. search needs) returns returns-2 returns-3)

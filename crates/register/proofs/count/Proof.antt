@@ -1,0 +1,36 @@
+-- `register::count` meets its contract: `judge_window` decides the refusals, and the walk's answer is passed on.
+use borrow.Author.Needs.{needs}
+use Rattle.register.proofs.Looks.{count-refused, count-found, count-damaged}
+use Rattle.register.proofs.count.Statement.{statement}
+use Rattle.register.proofs.count.Tie as tie
+
+count-requires : tie.Need-count-requires
+count-requires c κs =
+    let p = rw (c .before .sizes .given .1) at (c .before .before .before .judge-window .ensures) in
+    (p .usable, p .sizes-are)
+
+returns : tie.Need-returns
+returns c =
+    let j = c .before .before .before in
+    let a = j .before .before .args in
+    count-refused (a .store .now) (a .x0) (a .y0) (a .x1) (a .y1) _ (rw (c .before .number .given .1) at (j .judge-window .ensures))
+
+returns-2 : tie.Need-returns-2
+returns-2 c =
+    let s = c .before .before .before .before .before in
+    let j = s .before .before in
+    let a = j .before .before .args in
+    count-found (a .store .now) (a .x0) (a .y0) (a .x1) (a .y1) _ (rw (s .sizes .given .1) at (j .judge-window .ensures)) _ _
+    (rw (c .before .found .given .1) at (c .before .before .before .count .ensures))
+
+returns-3 : tie.Need-returns-3
+returns-3 c =
+    let s = c .before .before .before .before in
+    let j = s .before .before in
+    let a = j .before .before .args in
+    count-damaged (a .store .now) (a .x0) (a .y0) (a .x1) (a .y1) _ (rw (s .sizes .given .1) at (j .judge-window .ensures)) (rw (c .enum-told .given .1) at (c .before .before .count .ensures))
+
+pub count-spec : {M : Type 1} → statement M
+count-spec =
+    tie.close
+    (tie.spec (λ c κs. search needs) (λ c. search needs) (λ c. search needs) count-requires (λ c. search needs) (λ c. search needs) returns returns-2 returns-3)

@@ -1,0 +1,60 @@
+-- `register::save` meets its contract: `read_sizes` decides refusal 3, and the walk's answer and output are passed on.
+use mathlib.Core.Path.{refl}
+use borrow.Author.Needs.{needs}
+use Rattle.register.proofs.Looks.{save-refused, saved-whole, saved-short, saved-damaged}
+use Rattle.register.proofs.save.Statement.{statement}
+use Rattle.register.proofs.save.Tie as tie
+
+returns : tie.Need-returns
+returns c =
+    let a = c .before .before .before .before .before .args in
+    save-refused (a .store .now) (a .output .now) _ (rw (c .enum-told .given .1) at (c .before .before .read-sizes .ensures)) refl
+
+save-requires : tie.Need-save-requires
+save-requires c κs =
+    let s = c .before .before in
+    let p = rw (s .sizes .given .1) at (s .before .before .read-sizes .ensures) in
+    (p .1, p .0)
+
+returns-2 : tie.Need-returns-2
+returns-2 c =
+    let v = c .before .before .before .before .before in
+    let s = v .before .before .before in
+    let j = s .before .before in
+    let a = j .before .before .before .args in
+    saved-whole (a .store .now) (a .output .now) _ ((rw (s .sizes .given .1) at (j .read-sizes .ensures)) .1) _ (rw (c .before .length .given .1) at (v .save .ensures))
+
+returns-3 : tie.Need-returns-3
+returns-3 c =
+    let v = c .before .before .before .before .before in
+    let s = v .before .before .before in
+    let j = s .before .before in
+    let a = j .before .before .before .args in
+    saved-short (a .store .now) (a .output .now) _ ((rw (s .sizes .given .1) at (j .read-sizes .ensures)) .1) _ (rw (c .before .needed .given .1) at (v .save .ensures))
+
+returns-4 : tie.Need-returns-4
+returns-4 c =
+    let v = c .before .before .before .before in
+    let s = v .before .before .before in
+    let j = s .before .before in
+    let a = j .before .before .before .args in
+    saved-damaged (a .store .now) (a .output .now) _ ((rw (s .sizes .given .1) at (j .read-sizes .ensures)) .1) (rw (c .enum-told2 .given .1) at (v .save .ensures))
+
+pub save-spec : {M : Type 1} → statement M
+save-spec =
+    tie.close
+    (tie.spec
+    (λ c κs. search needs)
+    (λ c. search needs)
+    (λ c. search needs)
+    returns
+    save-requires
+    (λ c. search needs)
+    (λ c. search needs)
+    (λ c. search needs)
+    (λ c. search needs)
+    returns-2
+    (λ c. search needs)
+    returns-3
+    (λ c. search needs)
+    returns-4)
