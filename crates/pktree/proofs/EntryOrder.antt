@@ -2,7 +2,7 @@
 use Prim.Native.Nat.{ℕ, zero, suc, _+_, _*_, _^_, _≤_, _<_}
 use native.Mathlib.Omega.{arith}
 use mathlib.Core.Path.{_≡_, refl, ap, ap₂, sym, _∙_}
-use mathlib.Core.Bool.{Bool, true, false}
+use mathlib.Core.Bool.{Bool, true, false, cond}
 use mathlib.Core.List.{List, [], _∷_, _++_, append-nil, append-assoc}
 use lib.Dec.{eqb}
 use lib.ListN.{length, length-append}
@@ -11,11 +11,10 @@ use Rattle.pktree.specs.Lists.{Every}
 use Rattle.pktree.specs.Panel.{Panel, Valid, OnPanel}
 use Rattle.pktree.specs.Elements.{Forest, empty, pixel, block, gather}
 use Rattle.pktree.specs.Tree.{tree, blocks, pixels}
-use Rattle.pktree.specs.Entries.{Entry, entry, entries}
+use Rattle.pktree.specs.Entries.{Entry, entry, entries, pixelEntries}
 use Rattle.pktree.proofs.Alignment.{pow-pos, aligned-root}
 use Rattle.pktree.proofs.Arranged.{Arranged, arranged-le}
 use Rattle.pktree.proofs.LocalLaw.{gather-is-local}
-use Rattle.pktree.proofs.Pixels.{keep, keep-join}
 
 -- each entry follows the one before it, the first one that of level j and code d: at a higher code, or at the same and a lower level
 abbrev pub InOrder : ℕ → ℕ → List Entry → Type 0
@@ -50,15 +49,15 @@ module _ (panel : Panel) (M : ℕ → Bool) (valid : Valid panel) where
         (omega arith) (omega (arith, pow-pos (panel .order))) (λ p. (omega arith, valid .order-from)) (λ j d p. tt),
   )
 
--- the codes of the entries of level 0
-abbrev pub pixelEntries : List Entry → List ℕ
-pixelEntries [] = []
-pixelEntries (e ∷ l) = keep (eqb (e .level) 0) (e .code) (pixelEntries l)
+kept-join : (b : Bool) (c : ℕ) (l r : List ℕ) → cond b (c ∷ (l ++ r)) (l ++ r) ≡ cond b (c ∷ l) l ++ r
+kept-join true c l r = refl
+kept-join false c l r = refl
 
-pixel-entries-join : (a b : List Entry) → pixelEntries (a ++ b) ≡ pixelEntries a ++ pixelEntries b
+pub pixel-entries-join : (a b : List Entry) → pixelEntries (a ++ b) ≡ pixelEntries a ++ pixelEntries b
 pixel-entries-join [] b = refl
 pixel-entries-join (e ∷ a) b =
-    rw (keep-join (eqb (e .level) 0) (e .code) (pixelEntries a) (pixelEntries b)) (ap (keep (eqb (e .level) 0) (e .code)) (pixel-entries-join a b))
+    ap (λ (l : List ℕ). cond (eqb (e .level) 0) (e .code ∷ l) l) (pixel-entries-join a b)
+    ∙ kept-join (eqb (e .level) 0) (e .code) (pixelEntries a) (pixelEntries b)
 
 pixel-entries-arranged : (k n from to : ℕ) (f : Forest) → Arranged k n from to f → pixelEntries (entries f) ≡ pixels f
 pixel-entries-arranged k n from to empty g = refl

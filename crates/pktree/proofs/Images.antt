@@ -12,10 +12,10 @@ use Rattle.pktree.specs.Lists.{Every}
 use Rattle.pktree.specs.Panel.{Panel, Valid}
 use Rattle.pktree.specs.PixelSet.{member, PixelSet}
 use Rattle.pktree.specs.Tree.{tree, pixels}
-use Rattle.pktree.specs.Entries.{Entry, entry, entries}
+use Rattle.pktree.specs.Entries.{Entry, entry, entries, pixelEntries}
 use Rattle.pktree.specs.Image.{fourBytes, codeBytes, levelBytes, header, arrays, image}
 use Rattle.pktree.proofs.Pixels.{pixels-of-set}
-use Rattle.pktree.proofs.EntryOrder.{pixelEntries, pixel-entries-of-tree, EntryWithin, entries-within}
+use Rattle.pktree.proofs.EntryOrder.{pixel-entries-of-tree, EntryWithin, entries-within}
 
 -- four bytes tell a number below 2 ^ 32
 digit : (a b : ℕ) → a % 256 ≡ b % 256 → a / 256 ≡ b / 256 → a ≡ b

@@ -1,0 +1,2 @@
+// The image: the parts of the sender's bytes, and who is refused with 10, 11 or 12.
+pub mod parts;
