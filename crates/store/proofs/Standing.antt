@@ -1,5 +1,6 @@
 -- The laws of reading: what is read stands slot by slot in the words (found), what stands so is read (complete),
--- and words that agree on the slots of a tree hold the same tree (frame). Other proofs use these, not the reading's text.
+-- words that agree on the slots of a tree hold the same tree (frame) and read the same (agreeing-reads-same). Other proofs use these, not the
+-- reading's text.
 use Prim.Native.Nat.{ℕ, zero, suc, _+_, _*_, _/_, _%_, _^_, _≤_, _<_, max}
 use native.Mathlib.Omega.{arith}
 use mathlib.Core.Path.{_≡_, refl, ap, ap₂, subst, sym, _∙_}
@@ -232,3 +233,16 @@ frame width words words′ (blockThen s i c es t) e h = (
   frame width words words′ es (every-left _ (slotsOf es) (slotsOf t) (e .1)) (h .2),
   frame width words words′ t (every-right _ (slotsOf es) (slotsOf t) (e .1)) (h .3),
 )
+
+-- a store that agrees on the slots of the tree that is read reads the same
+pub agreeing-reads-same : (width : ℕ) (words words′ : List ℕ) (d s : ℕ) (t : Placed) → readSlot width words d s ≡ some t
+    → Every (λ s. slotPart width words s ≡ slotPart width words′ s) (slotsOf t) → readSlot width words′ d s ≡ some t
+agreeing-reads-same width words words′ zero s t r e = let f = found width words zero s t r in absurd (omega (arith, f .shallow))
+agreeing-reads-same width words words′ (suc d) s t r e =
+    let f = found width words (suc d) s t r in
+    let agree : Every (λ s. slotPart width words s ≡ slotPart width words′ s) (s ∷ (slotsOf (f .elements) ++ [])) =
+    subst (λ (u : Placed). Every (λ s. slotPart width words s ≡ slotPart width words′ s) (slotsOf u)) (f .is) e in
+    complete-slot width words′ d s (f .level) (f .code) (f .elements)
+    (subst (λ (p : List ℕ). SlotSays p (f .level) (f .code) (f .elements)) (agree .0) (f .says))
+    (frame width words words′ (f .elements) (every-left _ (slotsOf (f .elements)) [] (agree .1)) (f .stands)) (omega (arith, f .shallow))
+    ∙ ap some (sym (f .is))
