@@ -1,0 +1,71 @@
+-- What ties a step to the compiled function: at every model, a call of the routine of a public call gives its caller just `Learnt`, of which
+-- the steps are made.
+use mathlib.Core.Path.{_≡_}
+use borrow.Fn.World.{World}
+use borrow.Fn.Plain.{Known}
+use borrow.Fn.Run.{Over}
+use contract.Running.{givenOf}
+use prog.Routine.{Env, Name}
+use Rattle.register.proofs.make.Reads as make-reads
+use Rattle.register.proofs.make.Kinds as make-kinds
+use Rattle.register.proofs.make.Symbol as make-symbol
+use Rattle.register.proofs.make.Met as make-theorem
+use Rattle.register.proofs.mark.Reads as mark-reads
+use Rattle.register.proofs.mark.Kinds as mark-kinds
+use Rattle.register.proofs.mark.Symbol as mark-symbol
+use Rattle.register.proofs.mark.Met as mark-theorem
+use Rattle.register.proofs.clear.Reads as clear-reads
+use Rattle.register.proofs.clear.Kinds as clear-kinds
+use Rattle.register.proofs.clear.Symbol as clear-symbol
+use Rattle.register.proofs.clear.Met as clear-theorem
+use Rattle.register.proofs.ask.Reads as ask-reads
+use Rattle.register.proofs.ask.Kinds as ask-kinds
+use Rattle.register.proofs.ask.Symbol as ask-symbol
+use Rattle.register.proofs.ask.Met as ask-theorem
+use Rattle.register.proofs.count.Reads as count-reads
+use Rattle.register.proofs.count.Kinds as count-kinds
+use Rattle.register.proofs.count.Symbol as count-symbol
+use Rattle.register.proofs.count.Met as count-theorem
+use Rattle.register.proofs.list.Reads as list-reads
+use Rattle.register.proofs.list.Kinds as list-kinds
+use Rattle.register.proofs.list.Symbol as list-symbol
+use Rattle.register.proofs.list.Met as list-theorem
+use Rattle.register.proofs.save.Reads as save-reads
+use Rattle.register.proofs.save.Kinds as save-kinds
+use Rattle.register.proofs.save.Symbol as save-symbol
+use Rattle.register.proofs.save.Met as save-theorem
+
+pub make-gives : (w : World) (γ : Env) (name : Name) → γ name ≡ make-symbol.routine
+    → Known (w .𝓤) (w .H) (w .𝓖 .A) (givenOf (w .𝓤) (w .H) (w .𝓜) (w .𝓖)) (Over (w .𝓤) (w .H) (w .𝓜) (w .𝓖) (w .𝓡) γ) 1
+    make-kinds.ps make-kinds.r make-reads.Asked make-reads.Learnt name
+make-gives w γ name e = make-reads.known w γ name make-symbol.routine e (make-theorem.met (w .𝓤) (w .H) (w .𝓜) (w .𝓖) (w .𝓡))
+
+pub mark-gives : (w : World) (γ : Env) (name : Name) → γ name ≡ mark-symbol.routine
+    → Known (w .𝓤) (w .H) (w .𝓖 .A) (givenOf (w .𝓤) (w .H) (w .𝓜) (w .𝓖)) (Over (w .𝓤) (w .H) (w .𝓜) (w .𝓖) (w .𝓡) γ) 1
+    mark-kinds.ps mark-kinds.r mark-reads.Asked mark-reads.Learnt name
+mark-gives w γ name e = mark-reads.known w γ name mark-symbol.routine e (mark-theorem.met (w .𝓤) (w .H) (w .𝓜) (w .𝓖) (w .𝓡))
+
+pub clear-gives : (w : World) (γ : Env) (name : Name) → γ name ≡ clear-symbol.routine
+    → Known (w .𝓤) (w .H) (w .𝓖 .A) (givenOf (w .𝓤) (w .H) (w .𝓜) (w .𝓖)) (Over (w .𝓤) (w .H) (w .𝓜) (w .𝓖) (w .𝓡) γ) 1
+    clear-kinds.ps clear-kinds.r clear-reads.Asked clear-reads.Learnt name
+clear-gives w γ name e = clear-reads.known w γ name clear-symbol.routine e (clear-theorem.met (w .𝓤) (w .H) (w .𝓜) (w .𝓖) (w .𝓡))
+
+pub ask-gives : (w : World) (γ : Env) (name : Name) → γ name ≡ ask-symbol.routine
+    → Known (w .𝓤) (w .H) (w .𝓖 .A) (givenOf (w .𝓤) (w .H) (w .𝓜) (w .𝓖)) (Over (w .𝓤) (w .H) (w .𝓜) (w .𝓖) (w .𝓡) γ) 1
+    ask-kinds.ps ask-kinds.r ask-reads.Asked ask-reads.Learnt name
+ask-gives w γ name e = ask-reads.known w γ name ask-symbol.routine e (ask-theorem.met (w .𝓤) (w .H) (w .𝓜) (w .𝓖) (w .𝓡))
+
+pub count-gives : (w : World) (γ : Env) (name : Name) → γ name ≡ count-symbol.routine
+    → Known (w .𝓤) (w .H) (w .𝓖 .A) (givenOf (w .𝓤) (w .H) (w .𝓜) (w .𝓖)) (Over (w .𝓤) (w .H) (w .𝓜) (w .𝓖) (w .𝓡) γ) 1
+    count-kinds.ps count-kinds.r count-reads.Asked count-reads.Learnt name
+count-gives w γ name e = count-reads.known w γ name count-symbol.routine e (count-theorem.met (w .𝓤) (w .H) (w .𝓜) (w .𝓖) (w .𝓡))
+
+pub list-gives : (w : World) (γ : Env) (name : Name) → γ name ≡ list-symbol.routine
+    → Known (w .𝓤) (w .H) (w .𝓖 .A) (givenOf (w .𝓤) (w .H) (w .𝓜) (w .𝓖)) (Over (w .𝓤) (w .H) (w .𝓜) (w .𝓖) (w .𝓡) γ) 2
+    list-kinds.ps list-kinds.r list-reads.Asked list-reads.Learnt name
+list-gives w γ name e = list-reads.known w γ name list-symbol.routine e (list-theorem.met (w .𝓤) (w .H) (w .𝓜) (w .𝓖) (w .𝓡))
+
+pub save-gives : (w : World) (γ : Env) (name : Name) → γ name ≡ save-symbol.routine
+    → Known (w .𝓤) (w .H) (w .𝓖 .A) (givenOf (w .𝓤) (w .H) (w .𝓜) (w .𝓖)) (Over (w .𝓤) (w .H) (w .𝓜) (w .𝓖) (w .𝓡) γ) 2
+    save-kinds.ps save-kinds.r save-reads.Asked save-reads.Learnt name
+save-gives w γ name e = save-reads.known w γ name save-symbol.routine e (save-theorem.met (w .𝓤) (w .H) (w .𝓜) (w .𝓖) (w .𝓡))

@@ -1,0 +1,1 @@
+// Whole lists of calls: what survives, and the claim about every two lists.
