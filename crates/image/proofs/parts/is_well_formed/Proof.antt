@@ -12,24 +12,6 @@ use Rattle.image.specs.Judged.{WellFormed}
 use borrow.Author.Needs.{needs}
 use Rattle.image.proofs.parts.is_well_formed.Statement.{statement}
 use Rattle.image.proofs.parts.is_well_formed.Tie as tie
-use Rattle.image.proofs.parts.is_well_formed.Reads as reads
-use Rattle.image.proofs.parts.is_well_formed.Lts as lts
-use Rattle.image.proofs.parts.four_at.Reads as four-at-reads
-
-returns : tie.Need-returns
-returns c = search needs
-
-four-at-requires : tie.Need-four-at-requires
-four-at-requires c κs = search needs
-
-cast-result : tie.Need-cast-result
-cast-result c = search needs
-
-mul-result : tie.Need-mul-result
-mul-result c = search needs
-
-add-result : tie.Need-add-result
-add-result c = search needs
 
 length-decides : (bytes : List ℕ) (e : ℕ) → e ≡ entryNumber bytes → 10 ≤ length bytes → Decides (eqb (length bytes) (10 + 5 * e)) (WellFormed bytes)
 length-decides bytes e is h = go (eqb (length bytes) (10 + 5 * e)) refl
@@ -43,4 +25,4 @@ returns-2 c = length-decides (c .before .before .before .args .image .now) (c .f
 
 pub is-well-formed-spec : {M : Type 1} → statement M
 is-well-formed-spec =
-    tie.close (tie.spec returns four-at-requires cast-result mul-result add-result returns-2)
+    tie.close (tie.spec (λ c. search needs) (λ c κs. search needs) (λ c. search needs) (λ c. search needs) (λ c. search needs) returns-2)

@@ -6,27 +6,6 @@ use lib.ListN.{length}
 use borrow.Author.Needs.{needs}
 use Rattle.image.proofs.parts.levels_part.Statement.{statement}
 use Rattle.image.proofs.parts.levels_part.Tie as tie
-use Rattle.image.proofs.parts.levels_part.Reads as reads
-use Rattle.image.proofs.parts.levels_part.Lts as lts
-use Rattle.image.proofs.parts.entry_number.Reads as entry-number-reads
-
-entry-number-requires : tie.Need-entry-number-requires
-entry-number-requires c κs = search needs
-
-mul-start : tie.Need-mul-start
-mul-start c = search needs
-
-add-start : tie.Need-add-start
-add-start c = search needs
-
-sub-result : tie.Need-sub-result
-sub-result c = search needs
-
-part-result-start : tie.Need-part-result-start
-part-result-start c = search needs
-
-part-result-end : tie.Need-part-result-end
-part-result-end c = search needs
 
 returns : tie.Need-returns
 returns c =
@@ -39,10 +18,10 @@ pub levels-part-spec : {M : Type 1} → statement M
 levels-part-spec =
     tie.close
     (tie.spec
-    entry-number-requires
-    mul-start
-    add-start
-    sub-result
-    part-result-start
-    part-result-end
+    (λ c κs. search needs)
+    (λ c. search needs)
+    (λ c. search needs)
+    (λ c. search needs)
+    (λ c. search needs)
+    (λ c. search needs)
     returns)

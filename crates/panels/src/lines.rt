@@ -1,0 +1,146 @@
+use crate::answers::ask;
+use crate::answers::clear;
+use crate::answers::count;
+use crate::answers::mark;
+use crate::answers::print_number;
+use crate::entries::print;
+use register::Listing;
+use store::slots::wide;
+
+// m = 3, k = 3, N = 9: codes 0, 1, 2, 60; what is asked of them; then clear code 1.
+pub fn first_panel() {
+    let mut store = [0u32; 148];
+    io::write_all(1, b"codes 0, 1, 2, 60:");
+    print_number(register::make(&mut store, 3, 3, 9));
+    mark(&mut store, 0);
+    mark(&mut store, 1);
+    mark(&mut store, 2);
+    mark(&mut store, 60);
+    print(&store);
+    io::write_all(1, b"ask (1, 1):");
+    ask(&store, 1, 1);
+    io::write_all(1, b"\nask (3, 3):");
+    ask(&store, 3, 3);
+    io::write_all(1, b"\nwindow 4,4 to 7,7:");
+    count(&store, 4, 4, 7, 7);
+    list(&store);
+    io::write_all(1, b"\nask x = 8:");
+    ask(&store, 8, 0);
+    io::write_all(1, b"\nclear code 1:");
+    clear(&mut store, 1);
+    print(&store);
+}
+
+// The codes in the window 4,4 to 7,7; the word after them is left alone.
+fn list(store: &[u32]) {
+    let mut output = [7u32; 2];
+    let Listing::Found { found, opened } = register::list(store, 4, 4, 7, 7, &mut output) else {
+        io::write_all(1, b" not listed");
+        return;
+    };
+    io::write_all(1, b"; listed ");
+    io::print_decimal(1, found as u64);
+    io::write_all(1, b", opened ");
+    io::print_decimal(1, opened as u64);
+    io::write_all(1, b":");
+    print_word(&output, 0);
+    print_word(&output, 1);
+}
+
+fn print_word(words: &[u32], at: usize) {
+    if words.len() <= at {
+        return;
+    }
+    io::write_all(1, b" ");
+    io::print_decimal(1, wide(words[at]) as u64);
+}
+
+// N = 4 has two slots: the block that turns underfull hands its slot to the one that is formed in it.
+pub fn slot_handed_on() {
+    let mut store = [0u32; 64];
+    io::write_all(1, b"codes 0, 1, 4, N = 4:");
+    print_number(register::make(&mut store, 3, 3, 4));
+    mark(&mut store, 0);
+    mark(&mut store, 1);
+    mark(&mut store, 4);
+    print(&store);
+    io::write_all(1, b"mark 2:");
+    mark(&mut store, 2);
+    print(&store);
+}
+
+// The root alone with 8 = 4(k-1) elements is not full.
+pub fn full_root() {
+    let mut store = [0u32; 148];
+    io::write_all(1, b"codes 0, 1, 16, 17, 32, 33, 48, 49:");
+    print_number(register::make(&mut store, 3, 3, 9));
+    mark(&mut store, 0);
+    mark(&mut store, 1);
+    mark(&mut store, 16);
+    mark(&mut store, 17);
+    mark(&mut store, 32);
+    mark(&mut store, 33);
+    mark(&mut store, 48);
+    mark(&mut store, 49);
+    print(&store);
+    io::write_all(1, b"mark 4:");
+    mark(&mut store, 4);
+    print(&store);
+}
+
+pub fn smallest_panel() {
+    let mut store = [0u32; 80];
+    io::write_all(1, b"m = 1, k = 2, empty:");
+    print_number(register::make(&mut store, 1, 2, 4));
+    print(&store);
+    io::write_all(1, b"m = 1, k = 2, all four:");
+    mark(&mut store, 0);
+    mark(&mut store, 1);
+    mark(&mut store, 2);
+    mark(&mut store, 3);
+    print(&store);
+}
+
+// A pixel by its coordinates, printed by its code.
+pub fn codes() {
+    let mut store = [0u32; 148];
+    io::write_all(1, b"(5, 3):");
+    print_number(register::make(&mut store, 3, 3, 9));
+    print_number(register::mark(&mut store, 5, 3));
+    print(&store);
+    io::write_all(1, b"(65535, 65535) on m = 16:");
+    print_number(register::make(&mut store, 16, 3, 9));
+    print_number(register::mark(&mut store, 65535, 65535));
+    print(&store);
+}
+
+pub fn limits() {
+    let mut store = [0u32; 148];
+    let mut short = [0u32; 147];
+    io::write_all(1, b"k = 3, N = 9, 148 and 147 words:");
+    print_number(register::make(&mut store, 3, 3, 9));
+    print_number(register::make(&mut short, 3, 3, 9));
+    io::write_all(1, b"\nk = 1 and 17, m = 0 and 17, N = 0 and 65536:");
+    print_number(register::make(&mut store, 3, 1, 9));
+    print_number(register::make(&mut store, 3, 17, 9));
+    print_number(register::make(&mut store, 0, 3, 9));
+    print_number(register::make(&mut store, 17, 3, 9));
+    print_number(register::make(&mut store, 3, 3, 0));
+    print_number(register::make(&mut store, 3, 3, 65536));
+    io::write_all(1, b"\nmark x = 8:");
+    print_number(register::mark(&mut store, 8, 0));
+    io::write_all(1, b"\n");
+}
+
+// A marked pixel on a full register gives 5, another one 6; room from a cleared pixel counts.
+pub fn full_register() {
+    let mut store = [0u32; 36];
+    io::write_all(1, b"N = 1: mark 5, 5, 6, clear 5, mark 6:");
+    print_number(register::make(&mut store, 3, 3, 1));
+    mark(&mut store, 5);
+    mark(&mut store, 5);
+    mark(&mut store, 6);
+    clear(&mut store, 5);
+    mark(&mut store, 6);
+    print(&store);
+}
