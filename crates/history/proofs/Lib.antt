@@ -2,3 +2,4 @@ pub mod Steps
 pub mod Runs
 pub mod TwoLists
 pub mod Routines
+pub mod CallSteps

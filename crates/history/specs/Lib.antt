@@ -1,3 +1,4 @@
 pub mod Survivors
 pub mod Run
 pub mod Claim
+pub mod Script
