@@ -14,6 +14,7 @@ use Rattle.pktree.proofs.Forests.{size-join, pixels-join}
 use Rattle.pktree.proofs.Alignment.{pow-pos, blockCode, blockCode-aligned, blockCode-le, blockCode-lt}
 use Rattle.pktree.proofs.Arranged.{Arranged, LocallyRight}
 use Rattle.pktree.proofs.Regroup.{countAround, Disturbed, Formed, formed, nothing-to-form}
+use Rattle.pktree.proofs.Absurd.{zero-is-not-one}
 use Rattle.store.specs.Splice.{codeAt}
 use Rattle.store.specs.Placed.{Placed, nothing, pixelThen, blockThen, _⧻_, forestOf}
 use Rattle.store.proofs.Standing.{SlotSays}
@@ -46,9 +47,9 @@ cut-once empty b (pixel x c) d e n = absurd (omega arith)
 cut-once empty b (block i x es c) d e n = absurd (omega arith)
 cut-once (pixel x a) b empty d e n = absurd (omega arith)
 cut-once (pixel x a) b (pixel y c) d e n = let r = cut-once a b c d (cc) (omega arith) in (cc (r .0), r .1)
-cut-once (pixel x a) b (block i y es c) d e n = absurd (let z : _≡_ {A = ℕ} 0 1 = cc in omega arith)
+cut-once (pixel x a) b (block i y es c) d e n = zero-is-not-one (cc)
 cut-once (block i x es a) b empty d e n = absurd (omega arith)
-cut-once (block i x es a) b (pixel y c) d e n = absurd (let z : _≡_ {A = ℕ} 0 1 = cc in omega arith)
+cut-once (block i x es a) b (pixel y c) d e n = zero-is-not-one (cc)
 cut-once (block i x es a) b (block j y fs c) d e n = let r = cut-once a b c d (cc) (omega arith) in (cc (r .0), r .1)
 
 same-parts : (i d : ℕ) {a a′ r r′ b b′ : Forest} → a ≡ a′ → r ≡ r′ → b ≡ b′ → a ⧺ block i d r b ≡ a′ ⧺ block i d r′ b′

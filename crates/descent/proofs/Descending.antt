@@ -9,6 +9,7 @@ use mathlib.Core.List.{List, [], _∷_}
 use lib.ListN.{length, getD, set, drop, length-set, length-drop}
 use lib.Seq.{getD-set-same, getD-set-other, length-take-le}
 use Rattle.pktree.specs.Elements.{size}
+use Rattle.pktree.proofs.Absurd.{zero-is-not-one}
 use Rattle.store.specs.Sizes.{sizesOf, slotCount, slotWidth}
 use Rattle.store.specs.Layout.{layoutOf, LayoutFits}
 use Rattle.store.specs.Slot.{slotPart, countWord}
@@ -82,7 +83,7 @@ pub stopped : {words : List ℕ} {layout : Layout} {order code : ℕ} {r : Locat
     → LocateMeets words layout order code r
 stopped e never =
     record {
-      bounds = λ f. let z : _≡_ {A = ℕ} 0 1 = cc in absurd (omega arith);
+      bounds = λ f. zero-is-not-one (cc);
       sound = λ placed s l o p. absurd (never placed (record { sound = s; layout-is = l; order-is = o; on-panel = p }));
       closed = λ h. e;
     }
@@ -125,12 +126,13 @@ module _ {words : List ℕ} {layout : Layout} {order code : ℕ} {slots places :
     pub few-elements : count ≤ 75
     few-elements = omega (arith, header .laid, slot-long layout words slot fits (d .slot-below), fits .within .width-to)
 
-    pub found-here : (place : ℕ) (marked : Bool) → LookedHere (slotPart (layout .width) words slot) count code place marked
+    pub found-here : (place : ℕ) (marked : Bool) → 1 ≤ level → LookedHere (slotPart (layout .width) words slot) count code place marked
         → LocateMeets words layout order code (record { damaged = false; marked = marked; slot = slot; level = level; block = block; place = place; depth = depth; slots = slots; places = places })
-    found-here place marked h =
+    found-here place marked above h =
         record {
           bounds = λ e. record {
             slot-below = d .slot-below;
+            level-from = above;
             deep = d .falls;
             path-below = d .path-below;
             place-below = le-trans (place-within (slotPart (layout .width) words slot) count code place marked h) few-elements;

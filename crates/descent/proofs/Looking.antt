@@ -10,6 +10,7 @@ use Rattle.pktree.specs.Elements.{empty, pixel, block, _⧺_, size}
 use Rattle.pktree.proofs.Alignment.{pow-pos}
 use Rattle.pktree.proofs.Windows.{within-multiple}
 use Rattle.pktree.proofs.Arranged.{Arranged, arranged-upper, arranged-join}
+use Rattle.pktree.proofs.Absurd.{zero-is-not-one}
 use Rattle.store.specs.Slot.{slotPart}
 use Rattle.store.specs.Element.{elementOf, elementAt}
 use Rattle.store.specs.Splice.{codeAt, PlaceOf}
@@ -93,7 +94,7 @@ module _ {k width slots : ℕ} {words : List ℕ} {slot level from : ℕ} {es : 
         place-is = refl;
         below = starts;
         above = above-place nothing es 0 from refl refl (h .place-of) (view .right .arranged);
-        is = ((λ e. let z : _≡_ {A = ℕ} 0 1 = cc in absurd (omega arith)), (λ e. refl));
+        is = ((λ e. zero-is-not-one (cc)), (λ e. refl));
       }
   looked-between (suc i) h = go (split-at es i (h .place-of .within))
     where
@@ -109,7 +110,7 @@ module _ {k width slots : ℕ} {words : List ℕ} {slot level from : ℕ} {es : 
             place-is = m;
             below = rw (forest-join a last) low;
             above = above-place (a ⧻ last) b (suc i) mid cut m (h .place-of) high;
-            is = ((λ q. let z : _≡_ {A = ℕ} 0 1 = cc in absurd (omega arith)), (λ q. cut));
+            is = ((λ q. zero-is-not-one (cc)), (λ q. cut));
           }
 
       go : SplitAt es i → PlaceIn k level from code to (suc i) false es
@@ -143,9 +144,9 @@ module _ {k width slots : ℕ} {words : List ℕ} {slot level from : ℕ} {es : 
             place-is = n;
             below = arranged-upper k level from mid code (forestOf a) (omega arith) low;
             above = rw own at (high .1);
-            is = ((λ t. rw own at e), (λ t. let z : _≡_ {A = ℕ} 0 1 = cc in absurd (omega arith)));
+            is = ((λ t. rw own at e), (λ t. zero-is-not-one (cc)));
           }
-      go (at-block a s j c fs b e n) = let z : _≡_ {A = ℕ} 0 1 = cc (named-block a s j c fs b place e n, h .pixel) in absurd (omega arith)
+      go (at-block a s j c fs b e n) = zero-is-not-one (cc (named-block a s j c fs b place e n, h .pixel))
 
   pub looked-here : (place : ℕ) (marked : Bool) → LookedHere part count code place marked → PlaceIn k level from code to place marked es
   looked-here place true h = looked-own place h
@@ -155,7 +156,7 @@ module _ {k width slots : ℕ} {words : List ℕ} {slot level from : ℕ} {es : 
   looked-inner {place} {s} {i} {c} h = go (split-at es place (h .within))
     where
       go : SplitAt es place → EntersBlock code place s i c es
-      go (at-pixel a d b e n) = let z : _≡_ {A = ℕ} 0 1 = cc (named-pixel a d b place e n, h .block) in absurd (omega arith)
+      go (at-pixel a d b e n) = zero-is-not-one (cc (named-pixel a d b place e n, h .block))
       go (at-block a t j d fs b e n) =
           let e′ : es ≡ a ⧻ blockThen s i c fs b = cc (named-block a t j d fs b place e n, h .block, e) in
           record {

@@ -43,6 +43,7 @@ pub record LocatedIn (words : List ℕ) (placed : Placed) (code : ℕ) (r : Loca
 -- on every store the numbers stay in bounds
 pub record LocatedBounds (slots order : ℕ) (r : Located) : Type 0 where
   pub slot-below : r .slot < slots
+  pub level-from : 1 ≤ r .level
   pub deep : r .depth + r .level ≤ order
   pub path-below : (i : ℕ) → i < r .depth → getD (r .slots) i 0 < slots
   pub place-below : r .place ≤ 75

@@ -16,6 +16,7 @@ use Rattle.pktree.specs.Entries.{Entry, entry, entries, pixelEntries}
 use Rattle.pktree.specs.Image.{fourBytes, codeBytes, levelBytes, header, arrays, image}
 use Rattle.pktree.proofs.Pixels.{pixels-of-set}
 use Rattle.pktree.proofs.EntryOrder.{pixel-entries-of-tree, EntryWithin, entries-within}
+use Rattle.pktree.proofs.Absurd.{zero-is-not-one}
 
 -- four bytes tell a number below 2 ^ 32
 digit : (a b : ℕ) → a % 256 ≡ b % 256 → a / 256 ≡ b / 256 → a ≡ b
@@ -64,8 +65,8 @@ cut-right a b a′ b′ e p = sym (drop-at a b (length a) refl) ∙ ap (drop (le
 pub columns-determine : (l l′ : List Entry) (top top′ : ℕ) → Every (EntryWithin 4294967296 top) l → Every (EntryWithin 4294967296 top′) l′
     → codeBytes l ≡ codeBytes l′ → levelBytes l ≡ levelBytes l′ → l ≡ l′
 columns-determine [] [] t t′ h h′ p q = refl
-columns-determine [] (e ∷ l′) t t′ h h′ p q = absurd (let z : _≡_ {A = ℕ} 0 1 = cc in omega arith)
-columns-determine (e ∷ l) [] t t′ h h′ p q = absurd (let z : _≡_ {A = ℕ} 0 1 = cc in omega arith)
+columns-determine [] (e ∷ l′) t t′ h h′ p q = zero-is-not-one (cc)
+columns-determine (e ∷ l) [] t t′ h h′ p q = zero-is-not-one (cc)
 columns-determine (e ∷ l) (e′ ∷ l′) t t′ h h′ p q =
     let c : e .code ≡ e′ .code =
     four-bytes-determine (e .code) (e′ .code) (h .0 .0) (h′ .0 .0) (cut-left (fourBytes (e .code)) (codeBytes l) (fourBytes (e′ .code)) (codeBytes l′) refl p) in

@@ -1,3 +1,4 @@
+pub mod Absurd
 pub mod Forests
 pub mod Locality
 pub mod Alignment

@@ -14,6 +14,7 @@ use Rattle.pktree.specs.Elements.{Forest, empty, pixel, block, size}
 use Rattle.pktree.specs.Entries.{Entry, entry}
 use Rattle.pktree.proofs.Counting.{indicator, countIn}
 use Rattle.pktree.proofs.Arranged.{Arranged, LocallyRight, countIn-after}
+use Rattle.pktree.proofs.Absurd.{zero-is-not-one}
 
 -- level and code of each element, a pixel's level being 0: what one slot shows
 abbrev pub heads : Forest → List Entry
@@ -52,7 +53,7 @@ localTest k l c es = slotTest k l c (heads es) && insideTest k es
 
 pub both : (a b : Bool) → a && b ≡ true → (a ≡ true) × (b ≡ true)
 both true b h = (refl, h)
-both false b h = absurd (let z : _≡_ {A = ℕ} 0 1 = cc in omega arith)
+both false b h = zero-is-not-one (cc)
 
 -- one element of a slot passes
 pub record Passed (k l to from q n i c : ℕ) (r : List Entry) : Type 0 where
@@ -138,7 +139,7 @@ arranged-of-pass k l to from q n (pixel c f) h e g =
     let m = tally (eqb r q) n in
     let o : c + 4 ^ 0 ≡ suc c = omega arith in
     (t .above, arranged-of-pass k l to (suc c) r m f h (subst (λ (d : ℕ). passTest k l to d r m (heads f) ≡ true) o (t .rest)) g)
-arranged-of-pass k l to from q n (block zero c es f) h e g = absurd (let z : _≡_ {A = ℕ} 0 1 = cc in omega arith)
+arranged-of-pass k l to from q n (block zero c es f) h e g = zero-is-not-one (cc)
 arranged-of-pass k l to from q n (block (suc i) c es f) h e g =
     let t = passed k l to from q n (suc i) c (heads f) e in
     let r = c / 4 ^ l in

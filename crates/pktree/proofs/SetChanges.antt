@@ -12,6 +12,7 @@ use Rattle.pktree.specs.Lists.{Every}
 use Rattle.pktree.specs.Panel.{Panel, OnPanel}
 use Rattle.pktree.specs.PixelSet.{member, Ascending, PixelSet, added, removed}
 use Rattle.pktree.proofs.Pixels.{ascending-lower, member-below-ascending}
+use Rattle.pktree.proofs.Absurd.{zero-is-not-one}
 
 or-swap : (a b c : Bool) → (a || (b || c)) ≡ (b || (a || c))
 or-swap true true c = refl
@@ -42,10 +43,7 @@ added-ascends x from (c ∷ set) p h out = go (decLt x c) (ℕ-discrete c x) (ad
   where
     go : Dec (x < c) → Dec (c ≡ x) → (suc c ≤ x → Ascending (suc c) set → member set x ≡ false → Ascending (suc c) (added x set)) → Ascending from (added x (c ∷ set))
     go (yes q) e r = rw (lt-ltb x c q) (p, (omega arith, h .1))
-    go (no q) (yes e) r = absurd (omega (arith, clash))
-      where
-        clash : _≡_ {A = ℕ} 0 1
-        clash = cc (eq-eqb c x e)
+    go (no q) (yes e) r = zero-is-not-one (cc (eq-eqb c x e))
     go (no q) (no e) r = rw (le-ltb x c (omega arith)) (h .0, r (omega arith) (h .1) (rw (ne-eqb c x e) at out))
 
 added-every : (P : ℕ → Type 0) (x : ℕ) (set : List ℕ) → P x → Every P set → Every P (added x set)
@@ -73,10 +71,7 @@ member-removed x from (c ∷ set) y h = go (ℕ-discrete c x) (ℕ-discrete x y)
     go (no e) f (no g) r = rw (ne-eqb c x e, ne-eqb c y g) r
 
 pub length-removed : (x : ℕ) (set : List ℕ) → member set x ≡ true → suc (length (removed x set)) ≡ length set
-length-removed x [] h = absurd (omega (arith, clash))
-  where
-    clash : _≡_ {A = ℕ} 0 1
-    clash = cc
+length-removed x [] h = zero-is-not-one (cc)
 length-removed x (c ∷ set) h = go (ℕ-discrete c x) (length-removed x set)
   where
     go : Dec (c ≡ x) → (member set x ≡ true → suc (length (removed x set)) ≡ length set) → suc (length (removed x (c ∷ set))) ≡ length (c ∷ set)

@@ -9,6 +9,7 @@ use Rattle.pktree.specs.PixelSet.{member}
 use Rattle.pktree.specs.Elements.{Forest}
 use Rattle.pktree.specs.Tree.{tree, pixels}
 use Rattle.pktree.specs.Window.{openedByPixel}
+use Rattle.pktree.proofs.Absurd.{zero-is-not-one}
 use Rattle.store.specs.declared.sizes.Sizes.{Sizes}
 use Rattle.store.specs.declared.sizes.Layout.{Layout}
 use Rattle.store.specs.Sizes.{panelOf, slotWidth, sizesOf, UsableStore}
@@ -40,7 +41,7 @@ module _ (words : List ℕ) (code : ℕ) (sizes : Sizes) (layout : Layout) (r : 
   pub asked-known : r .damaged ≡ false → AskAnswer words code (Known (r .marked) (r .depth + 1))
   asked-known ok =
       record {
-        bounds = omega (arith, m .bounds ok .deep, usable .valid .panel .order-to, order-is);
+        bounds = omega (arith, m .bounds ok .deep, m .bounds ok .level-from, order-is);
         sound = λ set holds.
             let s = holds .sound in
             let l = m .sound (holds .placed) s layout-is order-is on .1 in
@@ -48,7 +49,7 @@ module _ (words : List ℕ) (code : ℕ) (sizes : Sizes) (layout : Layout) (r : 
             let marked : member set code ≡ r .marked = ap (λ (t : List ℕ). member t code) (sym (holds .set-is)) ∙ marked-exactly s l in
             let opened : openedByPixel code (tree (panelOf (sizesOf words)) (member set)) ≡ suc (r .depth) = ap (openedByPixel code) (sym e) ∙ opened-by-pixel s l in
             ap₂ Known (sym marked) (omega (arith, opened));
-        closed = λ h. absurd (let z : _≡_ {A = Bool} true false = sym (shut h) ∙ ok in let y : _≡_ {A = ℕ} 0 1 = cc in omega arith);
+        closed = λ h. zero-is-not-one (cc (shut h, ok));
       }
 
   pub asked-damaged : r .damaged ≡ true → AskAnswer words code Damaged
@@ -57,6 +58,6 @@ module _ (words : List ℕ) (code : ℕ) (sizes : Sizes) (layout : Layout) (r : 
         bounds = tt;
         sound = λ set holds.
             let ok = m .sound (holds .placed) (holds .sound) layout-is order-is on .0 in
-            absurd (let z : _≡_ {A = Bool} true false = sym bad ∙ ok in let y : _≡_ {A = ℕ} 0 1 = cc in omega arith);
+            zero-is-not-one (cc (bad, ok));
         closed = λ h. refl;
       }

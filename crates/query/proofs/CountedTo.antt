@@ -6,6 +6,7 @@ use native.Mathlib.Numerals.{add-one}
 use mathlib.Core.Path.{_≡_, refl, ap, subst, sym, _∙_}
 use mathlib.Core.List.{List}
 use Rattle.pktree.specs.Window.{Window}
+use Rattle.pktree.proofs.Absurd.{zero-is-not-one}
 use Rattle.store.specs.Element.{elementAt}
 use Rattle.store.specs.Placed.{Placed, _⧻_, forestOf}
 use Rattle.store.specs.Slot.{slotPart}
@@ -71,7 +72,7 @@ module _ {look : Look} {words : List ℕ} {slot level code found opened : ℕ} w
   element-damaged to =
       record {
         bounds = tt;
-        right = λ k es view ordered room. let z : _≡_ {A = ℕ} 0 1 = cc (to .passed k es view ordered room .done) in absurd (omega arith);
+        right = λ k es view ordered room. zero-is-not-one (cc (to .passed k es view ordered room .done));
         closed = λ shut. refl;
       }
 

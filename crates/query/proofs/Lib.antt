@@ -7,13 +7,4 @@ pub mod CountedTo
 pub mod CountedElement
 pub mod WholeTree
 pub mod RootLook
-pub mod EntryWrites
-pub mod SavedTo
-pub mod SavedBlock
-pub mod WholePanel
-pub mod SavedImage
-pub mod SaveAnswers
-pub mod WrittenAt
-pub mod ListedTo
-pub mod ListedElement
 pub mod Asks

@@ -12,12 +12,12 @@ use Rattle.store.specs.Sound.{Holds}
 use Rattle.query.specs.declared.ask.Asked.{Asked}
 use Rattle.query.specs.declared.ask.Asked.the-variants.{Known, Damaged}
 
--- a path has at most 16 blocks below the root
-abbrev pub OpenedSmall : Asked → Type 0
-OpenedSmall (Known marked opened) = opened ≤ 17
-OpenedSmall Damaged = Unit {0}
+-- whatever the words are: never more blocks opened than the order is, since the level falls
+abbrev pub AskWithin : List ℕ → Asked → Type 0
+AskWithin words (Known marked opened) = opened ≤ getD words 1 0
+AskWithin words Damaged = Unit {0}
 
 pub record AskAnswer (words : List ℕ) (code : ℕ) (r : Asked) : Type 0 where
-  pub bounds : OpenedSmall r
+  pub bounds : AskWithin words r
   pub sound : (set : List ℕ) → Holds words set → r ≡ Known (member set code) (openedByPixel code (tree (panelOf (sizesOf words)) (member set)))
   pub closed : CannotOpen (slotWidth (getD words 2 0)) words 0 (getD words 1 0) 0 → r ≡ Damaged

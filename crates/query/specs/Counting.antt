@@ -10,7 +10,7 @@ use Rattle.pktree.specs.Tree.{pixels, tree as setTree}
 use Rattle.pktree.specs.Window as tree
 use Rattle.pktree.specs.Window.{found, openedByWindow}
 use Rattle.store.specs.Placed.{Placed, forestOf}
-use Rattle.store.specs.Sizes.{panelOf, slotWidth, sizesOf}
+use Rattle.store.specs.Sizes.{panelOf, slotCount, slotWidth, sizesOf}
 use Rattle.store.specs.Sound.{Holds}
 use Rattle.store.specs.Layout.{LayoutFits}
 use Rattle.store.specs.Opening.{CannotOpen}
@@ -76,14 +76,19 @@ pub record CountElementMeets (look : Look) (words : List ℕ) (element : Element
   pub bounds : CountBounds look r
   pub right : ElementRight look words element level found opened r
 
--- whatever the words are, the numbers are those of a register's size
-abbrev pub SmallNumbers : Counted → Type 0
-SmallNumbers (Seen found opened) = (found ≤ 65535) × (opened ≤ 65535)
-SmallNumbers Damaged = Unit {0}
+-- never more pixels found than N, nor more blocks opened than S
+pub record WithinSizes (words : List ℕ) (found opened : ℕ) : Type 0 where
+  pub found-to : found ≤ getD words 3 0
+  pub opened-to : opened ≤ slotCount (getD words 2 0) (getD words 3 0)
+
+-- whatever the words are
+abbrev pub CountWithin : List ℕ → Counted → Type 0
+CountWithin words (Seen found opened) = WithinSizes words found opened
+CountWithin words Damaged = Unit {0}
 
 -- count's answer: on a sound store the numbers that 01 defines; damaged where the root's slot does not say that it is the root
 pub record CountAnswer (words : List ℕ) (window : tree.Window) (r : Counted) : Type 0 where
-  pub bounds : SmallNumbers r
+  pub bounds : CountWithin words r
   pub sound : (set : List ℕ) → Holds words set → Ordered window → BeginsOnPanel (panelOf (sizesOf words)) window
       → r ≡ Seen (length (found window set)) (openedByWindow window (setTree (panelOf (sizesOf words)) (member set)))
   pub closed : CannotOpen (slotWidth (getD words 2 0)) words 0 (getD words 1 0) 0 → r ≡ Damaged

@@ -6,6 +6,7 @@ use mathlib.Core.Logic.{_⊎_, inl, inr}
 use mathlib.Core.List.{List}
 use lib.ListN.{length, getD, drop}
 use Rattle.morton.specs.Code.{codeOf}
+use Rattle.pktree.proofs.Absurd.{zero-is-not-one}
 use Rattle.store.specs.declared.sizes.Sizes.{Sizes}
 use Rattle.store.specs.Sizes.{storeWords, sizesOf, UsableStore}
 use Rattle.store.specs.Sound.{Holds}
@@ -21,7 +22,7 @@ use Rattle.register.specs.Spoiled.{Spoiled}
 use Rattle.register.specs.Change.{PixelRefusals, WordsLeft}
 use Rattle.register.specs.Mark.{MarkMeets}
 use Rattle.register.specs.Clear.{ClearMeets}
-use Rattle.register.proofs.Looks.{never, spoiled-shut}
+use Rattle.register.proofs.Looks.{spoiled-shut}
 
 module _ (before after : List ℕ) (x y : ℕ) where
   pixel-refused : (n : ℕ) → PixelRefused before x y n → PixelRefusals before x y (refused n)
@@ -107,9 +108,9 @@ module _ (before after : List ℕ) (x y : ℕ) where
     mark-done b =
         let a = mark-here marking.Marked b in
         record {
-          refusals = pixel-given 0 (omega arith) (omega arith) (λ s. never (cc (a .closed (spoiled-shut before (p .usable) s))));
+          refusals = pixel-given 0 (omega arith) (omega arith) (λ s. zero-is-not-one (cc (a .closed (spoiled-shut before (p .usable) s))));
           else-answered = λ u on. inl refl;
-          already = λ set holds on m. never (cc (m, a .sound set holds .0));
+          already = λ set holds on m. zero-is-not-one (cc (m, a .sound set holds .0));
           full = λ set holds on m l. absurd (omega (arith, l, a .sound set holds .1));
           marked = λ set holds on m l. let s = a .sound set holds in (refl, s .2, s .3);
           left = left-changed (a .past) (a .long);
@@ -119,11 +120,11 @@ module _ (before after : List ℕ) (x y : ℕ) where
     mark-already b =
         let a = mark-here marking.Already b in
         record {
-          refusals = pixel-given 5 (omega arith) (omega arith) (λ s. never (cc (a .closed (spoiled-shut before (p .usable) s))));
+          refusals = pixel-given 5 (omega arith) (omega arith) (λ s. zero-is-not-one (cc (a .closed (spoiled-shut before (p .usable) s))));
           else-answered = λ u on. inr (inl refl);
           already = λ set holds on m. refl;
-          full = λ set holds on m l. never (cc (m, a .sound set holds .0));
-          marked = λ set holds on m l. never (cc (m, a .sound set holds .0));
+          full = λ set holds on m l. zero-is-not-one (cc (m, a .sound set holds .0));
+          marked = λ set holds on m l. zero-is-not-one (cc (m, a .sound set holds .0));
           left = left-same (refused 5) (omega arith) (a .leaves);
         }
 
@@ -131,9 +132,9 @@ module _ (before after : List ℕ) (x y : ℕ) where
     mark-full b =
         let a = mark-here marking.Full b in
         record {
-          refusals = pixel-given 6 (omega arith) (omega arith) (λ s. never (cc (a .closed (spoiled-shut before (p .usable) s))));
+          refusals = pixel-given 6 (omega arith) (omega arith) (λ s. zero-is-not-one (cc (a .closed (spoiled-shut before (p .usable) s))));
           else-answered = λ u on. inr (inr (inl refl));
-          already = λ set holds on m. never (cc (m, a .sound set holds .0));
+          already = λ set holds on m. zero-is-not-one (cc (m, a .sound set holds .0));
           full = λ set holds on m l. refl;
           marked = λ set holds on m l. absurd (omega (arith, l, a .sound set holds .1));
           left = left-same (refused 6) (omega arith) (a .leaves);
@@ -154,9 +155,9 @@ module _ (before after : List ℕ) (x y : ℕ) where
     clear-done b =
         let a = clear-here clearing.Cleared b in
         record {
-          refusals = pixel-given 0 (omega arith) (omega arith) (λ s. never (cc (a .closed (spoiled-shut before (p .usable) s))));
+          refusals = pixel-given 0 (omega arith) (omega arith) (λ s. zero-is-not-one (cc (a .closed (spoiled-shut before (p .usable) s))));
           else-answered = λ u on. inl refl;
-          unmarked = λ set holds on m. never (cc (m, a .sound set holds .0));
+          unmarked = λ set holds on m. zero-is-not-one (cc (m, a .sound set holds .0));
           cleared = λ set holds on m. let s = a .sound set holds in (refl, s .1, s .2);
           left = left-changed (a .past) (a .long);
         }
@@ -165,10 +166,10 @@ module _ (before after : List ℕ) (x y : ℕ) where
     clear-unmarked b =
         let a = clear-here clearing.Unmarked b in
         record {
-          refusals = pixel-given 7 (omega arith) (omega arith) (λ s. never (cc (a .closed (spoiled-shut before (p .usable) s))));
+          refusals = pixel-given 7 (omega arith) (omega arith) (λ s. zero-is-not-one (cc (a .closed (spoiled-shut before (p .usable) s))));
           else-answered = λ u on. inr (inl refl);
           unmarked = λ set holds on m. refl;
-          cleared = λ set holds on m. never (cc (m, a .sound set holds .0));
+          cleared = λ set holds on m. zero-is-not-one (cc (m, a .sound set holds .0));
           left = left-same (refused 7) (omega arith) (a .leaves);
         }
 

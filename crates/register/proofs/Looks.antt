@@ -11,6 +11,7 @@ use Rattle.morton.specs.Code.{codeOf}
 use Rattle.pktree.specs.PixelSet.{member}
 use Rattle.pktree.specs.Tree.{tree}
 use Rattle.pktree.specs.Window.{found, openedByPixel, openedByWindow}
+use Rattle.pktree.proofs.Absurd.{zero-is-not-one}
 use Rattle.store.specs.declared.sizes.Sizes.{Sizes}
 use Rattle.store.specs.Sizes.{panelOf, slotWidth, sizesOf, UsableStore}
 use Rattle.store.specs.Slot.{slotPart, levelWord}
@@ -22,10 +23,10 @@ use Rattle.query.specs.declared.ask.Asked.the-variants as asked
 use Rattle.query.specs.Asking.{AskAnswer}
 use Rattle.query.specs.declared.count.Counted.the-variants as counted
 use Rattle.query.specs.Counting.{CountAnswer}
-use Rattle.query.specs.declared.list.Listed.the-variants as listed
-use Rattle.query.specs.Listing.{ListAnswer}
-use Rattle.query.specs.declared.save.Imaged.the-variants as imaged
-use Rattle.query.specs.Saving.{SaveAnswer}
+use Rattle.listing.specs.declared.Listed.the-variants as listed
+use Rattle.listing.specs.Listing.{ListAnswer}
+use Rattle.saving.specs.declared.Imaged.the-variants as imaged
+use Rattle.saving.specs.Saving.{SaveAnswer}
 use Rattle.register.specs.declared.Asking.the-variants as asking
 use Rattle.register.specs.declared.Counting.the-variants as counting
 use Rattle.register.specs.declared.Listing.the-variants as listing
@@ -36,9 +37,6 @@ use Rattle.register.specs.Ask.{AskMeets}
 use Rattle.register.specs.Count.{windowGiven, InOrder, WindowRefusals, CountMeets}
 use Rattle.register.specs.List.{ListMeets}
 use Rattle.register.specs.Save.{imageOf, SaveMeets}
-
-pub never : {A : Type 0} → _≡_ {A = ℕ} 0 1 → A
-never z = absurd (omega arith)
 
 -- a spoiled store's root is no block of the panel
 pub spoiled-shut : (words : List ℕ) → UsableStore words → Spoiled words → CannotOpen (slotWidth (getD words 2 0)) words 0 (getD words 1 0) 0
@@ -57,6 +55,7 @@ module _ (words : List ℕ) (x y : ℕ) where
         else-answered = λ u on. absurd (fails u);
         zeros = λ z. (refl, refl);
         spoiled = λ u on s. absurd (fails u);
+        bounded = λ v. omega arith;
         sound = λ set holds on. absurd (fails (holds .sound .usable));
       }
   ask-refused n (inr (e, u, off)) =
@@ -66,6 +65,7 @@ module _ (words : List ℕ) (x y : ℕ) where
         else-answered = λ v on. absurd (off on);
         zeros = λ z. (refl, refl);
         spoiled = λ v on s. absurd (off on);
+        bounded = λ v. omega arith;
         sound = λ set holds on. absurd (off on);
       }
 
@@ -77,7 +77,8 @@ module _ (words : List ℕ) (x y : ℕ) where
           off-panel = ((λ z. absurd (omega arith)), (λ g. absurd (g .1 (p .on-panel))));
           else-answered = λ u on. inl refl;
           zeros = λ z. absurd (z refl);
-          spoiled = λ u on s. never (cc (a .closed (spoiled-shut words u s)));
+          spoiled = λ u on s. zero-is-not-one (cc (a .closed (spoiled-shut words u s)));
+          bounded = λ u. a .bounds;
           sound = λ set holds on.
               let e = a .sound set holds in
               let em : marked ≡ member set code = cc in
@@ -94,7 +95,8 @@ module _ (words : List ℕ) (x y : ℕ) where
           else-answered = λ u on. inr refl;
           zeros = λ z. (refl, refl);
           spoiled = λ u on s. refl;
-          sound = λ set holds on. never (cc (a .sound set holds));
+          bounded = λ u. omega arith;
+          sound = λ set holds on. zero-is-not-one (cc (a .sound set holds));
         }
 
 module _ (words : List ℕ) (x0 y0 x1 y1 : ℕ) where
@@ -139,6 +141,7 @@ module _ (words : List ℕ) (x0 y0 x1 y1 : ℕ) where
         refusals = window-refused n h;
         else-answered = λ u on o. absurd (never-refused n h u on o);
         zeros = λ z. (refl, refl);
+        bounded = λ u. (omega arith, omega arith);
         sound = λ set holds on o. absurd (never-refused n h (holds .sound .usable) on o);
       }
 
@@ -156,9 +159,10 @@ module _ (words : List ℕ) (x0 y0 x1 y1 : ℕ) where
     pub count-found : (n opened : ℕ) → CountAnswer words (windowGiven x0 y0 x1 y1) (counted.Seen n opened) → CountMeets words x0 y0 x1 y1 (counting.Found n opened)
     count-found n opened a =
         record {
-          refusals = window-given (accepted n opened) (omega arith) (omega arith) (omega arith) (λ s. never (cc (a .closed (spoiled-shut words (p .usable) s))));
+          refusals = window-given (accepted n opened) (omega arith) (omega arith) (omega arith) (λ s. zero-is-not-one (cc (a .closed (spoiled-shut words (p .usable) s))));
           else-answered = λ u on o. inl refl;
           zeros = λ z. absurd (z refl);
+          bounded = λ u. (a .bounds .found-to, a .bounds .opened-to);
           sound = λ set holds on o.
               let e = a .sound set holds (record { x-ordered = o .0; y-ordered = o .1 }) (record { x-on = on .0 .0; y-on = on .0 .1 }) in
               let en : n ≡ length (found (windowGiven x0 y0 x1 y1) set) = cc in
@@ -172,7 +176,8 @@ module _ (words : List ℕ) (x0 y0 x1 y1 : ℕ) where
           refusals = window-given (refused 13) (omega arith) (omega arith) (omega arith) (λ s. refl);
           else-answered = λ u on o. inr refl;
           zeros = λ z. (refl, refl);
-          sound = λ set holds on o. never (cc (a .sound set holds (record { x-ordered = o .0; y-ordered = o .1 }) (record { x-on = on .0 .0; y-on = on .0 .1 })));
+          bounded = λ u. (omega arith, omega arith);
+          sound = λ set holds on o. zero-is-not-one (cc (a .sound set holds (record { x-ordered = o .0; y-ordered = o .1 }) (record { x-on = on .0 .0; y-on = on .0 .1 })));
         }
 
   module _ (before after : List ℕ) where
@@ -183,6 +188,7 @@ module _ (words : List ℕ) (x0 y0 x1 y1 : ℕ) where
           else-answered = λ u on o. absurd (never-refused n h u on o);
           zeros = λ z q. refl;
           no-opened = λ z. refl;
+          bounded = λ u. (omega arith, omega arith);
           sound-short = λ set holds on o l. absurd (never-refused n h (holds .sound .usable) on o);
           sound = λ set holds on o l. absurd (never-refused n h (holds .sound .usable) on o);
           unchanged = λ z q. same;
@@ -194,10 +200,11 @@ module _ (words : List ℕ) (x0 y0 x1 y1 : ℕ) where
           → ListMeets words x0 y0 x1 y1 before after (listing.Found n opened)
       list-written n opened a =
           record {
-            refusals = window-given sizes p (accepted n opened) (omega arith) (omega arith) (omega arith) (λ s. never (cc (a .closed (spoiled-shut words (p .usable) s))));
+            refusals = window-given sizes p (accepted n opened) (omega arith) (omega arith) (omega arith) (λ s. zero-is-not-one (cc (a .closed (spoiled-shut words (p .usable) s))));
             else-answered = λ u on o. inl refl;
             zeros = λ z q. absurd (z refl);
             no-opened = λ z. absurd (z refl);
+            bounded = λ u. (a .bounds .found-to, a .bounds .opened-to);
             sound-short = λ set holds on o l.
                 let c = a .sound set holds (record { x-ordered = o .0; y-ordered = o .1 }) (record { x-on = on .0 .0; y-on = on .0 .1 }) in
                 absurd (omega (arith, c .0, c .2));
@@ -212,10 +219,11 @@ module _ (words : List ℕ) (x0 y0 x1 y1 : ℕ) where
       list-short n a =
           record {
             refusals = window-given sizes p (record { refusal = 9; first = n; second = 0 }) (omega arith) (omega arith) (omega arith)
-                (λ s. never (cc (a .closed (spoiled-shut words (p .usable) s))));
+                (λ s. zero-is-not-one (cc (a .closed (spoiled-shut words (p .usable) s))));
             else-answered = λ u on o. inr (inl refl);
             zeros = λ z q. absurd (q refl);
             no-opened = λ z. refl;
+            bounded = λ u. (a .bounds .found-to, omega arith);
             sound-short = λ set holds on o l.
                 let c = a .sound set holds (record { x-ordered = o .0; y-ordered = o .1 }) (record { x-on = on .0 .0; y-on = on .0 .1 }) in
                 ap (λ (i : ℕ). record { refusal = 9; first = i; second = 0 }) (c .0);
@@ -233,6 +241,7 @@ module _ (words : List ℕ) (x0 y0 x1 y1 : ℕ) where
             else-answered = λ u on o. inr (inr refl);
             zeros = λ z q. refl;
             no-opened = λ z. refl;
+            bounded = λ u. (omega arith, omega arith);
             sound-short = λ set holds on o l. absurd (a .sound set holds (record { x-ordered = o .0; y-ordered = o .1 }) (record { x-on = on .0 .0; y-on = on .0 .1 }));
             sound = λ set holds on o l. absurd (a .sound set holds (record { x-ordered = o .0; y-ordered = o .1 }) (record { x-on = on .0 .0; y-on = on .0 .1 }));
             unchanged = λ z q. absurd (q refl);
@@ -262,7 +271,7 @@ module _ (words before after : List ℕ) where
           else-answered = λ u. inl refl;
           zeros = λ z q. absurd (z refl);
           no-second = refl;
-          spoiled = λ u s. never (cc (a .closed (spoiled-shut words u s)));
+          spoiled = λ u s. zero-is-not-one (cc (a .closed (spoiled-shut words u s)));
           sound-short = λ set holds l. let c = a .sound set holds in absurd (omega (arith, c .0, c .1));
           sound = λ set holds l. let c = a .sound set holds in (ap (λ (i : ℕ). accepted i 0) (c .0), c .2);
           unchanged = λ z q. absurd (z refl);
@@ -276,7 +285,7 @@ module _ (words before after : List ℕ) where
           else-answered = λ u. inr (inl refl);
           zeros = λ z q. absurd (q refl);
           no-second = refl;
-          spoiled = λ u s. never (cc (a .closed (spoiled-shut words u s)));
+          spoiled = λ u s. zero-is-not-one (cc (a .closed (spoiled-shut words u s)));
           sound-short = λ set holds l. let c = a .sound set holds in ap (λ (i : ℕ). record { refusal = 9; first = i; second = 0 }) (c .0);
           sound = λ set holds l. let c = a .sound set holds in absurd (omega (arith, c .0, c .1));
           unchanged = λ z q. a .short n refl .0;

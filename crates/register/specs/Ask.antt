@@ -1,8 +1,9 @@
 -- 01 "Calls": ask (store, x, y).
-use Prim.Native.Nat.{ℕ}
+use Prim.Native.Nat.{ℕ, _≤_}
 use mathlib.Core.Path.{_≡_}
 use mathlib.Core.Logic.{_⊎_, _↔_}
 use mathlib.Core.List.{List}
+use lib.ListN.{getD}
 use Rattle.morton.specs.Code.{codeOf}
 use Rattle.pktree.specs.PixelSet.{member}
 use Rattle.pktree.specs.Tree.{tree}
@@ -23,6 +24,8 @@ pub record AskMeets (words : List ℕ) (x y : ℕ) (r : Asking) : Type 0 where
   pub else-answered : UsableStore words → HasPixelOn words x y → (askAnswer r .refusal ≡ 0) ⊎ (askAnswer r .refusal ≡ 13)
   pub zeros : (askAnswer r .refusal ≡ 0 → ⊥) → (askAnswer r .first ≡ 0) × (askAnswer r .second ≡ 0)
   pub spoiled : UsableStore words → HasPixelOn words x y → Spoiled words → askAnswer r .refusal ≡ 13
+  -- whatever the words are: never more blocks opened than the order m
+  pub bounded : UsableStore words → askAnswer r .second ≤ getD words 1 0
   -- on a sound store: marked or not, and the instantiated blocks that contain the pixel
   pub sound : (set : List ℕ) → Holds words set → HasPixelOn words x y
       → askAnswer r ≡ accepted (yesNo (member set (codeOf x y))) (openedByPixel (codeOf x y) (tree (panelOf (sizesOf words)) (member set)))

@@ -3,11 +3,11 @@ use Prim.Native.Nat.{ℕ, _≤_}
 use mathlib.Core.Path.{_≡_}
 use mathlib.Core.Logic.{_⊎_, _↔_}
 use mathlib.Core.List.{List}
-use lib.ListN.{length}
+use lib.ListN.{length, getD}
 use Rattle.pktree.specs.PixelSet.{member}
 use Rattle.pktree.specs.Tree.{tree}
 use Rattle.pktree.specs.Window.{Window, found, openedByWindow}
-use Rattle.store.specs.Sizes.{panelOf, sizesOf, UsableStore}
+use Rattle.store.specs.Sizes.{panelOf, slotCount, sizesOf, UsableStore}
 use Rattle.store.specs.Sound.{Holds}
 use Rattle.refusals.specs.Judged.{CornersOn}
 use Rattle.register.specs.declared.Counting.{Counting}
@@ -32,6 +32,8 @@ pub record CountMeets (words : List ℕ) (x0 y0 x1 y1 : ℕ) (r : Counting) : Ty
   -- else an answer or 13; zeros beside every refusal
   pub else-answered : UsableStore words → CornersOn words x0 y0 x1 y1 → InOrder x0 y0 x1 y1 → (countAnswer r .refusal ≡ 0) ⊎ (countAnswer r .refusal ≡ 13)
   pub zeros : (countAnswer r .refusal ≡ 0 → ⊥) → (countAnswer r .first ≡ 0) × (countAnswer r .second ≡ 0)
+  -- whatever the words are: never more than S blocks opened, nor more than N pixels found
+  pub bounded : UsableStore words → (countAnswer r .first ≤ getD words 3 0) × (countAnswer r .second ≤ slotCount (getD words 2 0) (getD words 3 0))
   -- on a sound store: the marked pixels in the window, and the instantiated blocks that share a pixel with it
   pub sound : (set : List ℕ) → Holds words set → CornersOn words x0 y0 x1 y1 → InOrder x0 y0 x1 y1
       → countAnswer r ≡ accepted (length (found (windowGiven x0 y0 x1 y1) set)) (openedByWindow (windowGiven x0 y0 x1 y1) (tree (panelOf (sizesOf words)) (member set)))

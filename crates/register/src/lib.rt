@@ -6,15 +6,15 @@ ghost use Rattle.register.specs.Ask.{AskMeets};
 ghost use Rattle.register.specs.Count.{CountMeets};
 ghost use Rattle.register.specs.List.{ListMeets};
 ghost use Rattle.register.specs.Save.{SaveMeets};
+use listing::Listed;
 use query::ask::Asked;
 use query::count::Counted;
-use query::list::Listed;
-use query::save::Imaged;
 use query::window::Window;
 use refusals::PixelJudged;
 use refusals::WindowJudged;
 use refusals::judge_pixel;
 use refusals::judge_window;
+use saving::Imaged;
 use store::reset::reset;
 use store::sizes::Sizes;
 use store::sizes::SizesRead;
@@ -134,7 +134,7 @@ pub fn list(store: &[u32], x0: u32, y0: u32, x1: u32, y1: u32, output: &mut [u32
         WindowJudged::Refused(number) => Listing::Refused(number),
         WindowJudged::Window(sizes) => {
             let window = Window { x0, y0, x1, y1 };
-            match query::list::list(store, sizes, window, output) {
+            match listing::list(store, sizes, window, output) {
                 Listed::Written { found, opened } => Listing::Found { found, opened },
                 Listed::Short(needed) => Listing::Short(needed),
                 Listed::Broken => Listing::Refused(13),
@@ -156,7 +156,7 @@ pub fn save(store: &[u32], output: &mut [u8]) -> Saving
     let SizesRead::Usable(sizes) = read_sizes(store) else {
         return Saving::Refused(3);
     };
-    match query::save::save(store, sizes, output) {
+    match saving::save(store, sizes, output) {
         Imaged::Whole(length) => Saving::Saved(length),
         Imaged::TooShort(needed) => Saving::Short(needed),
         Imaged::Unreadable => Saving::Refused(13),

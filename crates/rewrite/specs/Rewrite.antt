@@ -22,9 +22,19 @@ pub record WroteSlot (before : List ℕ) (level code : ℕ) (elements after : Li
   pub now-says : SlotNow after level code elements
   pub long : length after ≡ length before
 
+-- a slot of the store that was written anew, and no other
+pub record RewroteSlot (width slot level code : ℕ) (elements before after : List ℕ) : Type 0 where
+  pub now-says : SlotNow (slotPart width after slot) level code elements
+  pub only : OnlySlot width slot before after
+
 pub record SplicedSlot (width slot place removed inserted : ℕ) (source before after : List ℕ) : Type 0 where
   pub spliced : Spliced (slotPart width before slot) source place removed inserted (slotPart width after slot)
   pub only : OnlySlot width slot before after
+
+-- a run of elements lies in a slot's words
+pub record RunWithin (part : List ℕ) (first size : ℕ) : Type 0 where
+  pub laid : 8 + 2 * countWord part ≤ length part
+  pub within : first + size ≤ countWord part
 
 -- a run of elements lies in the slot, and a block of it can be named
 pub record CanCut (layout : Layout) (words : List ℕ) (slot level first size : ℕ) : Type 0 where
@@ -38,6 +48,14 @@ pub record CanCut (layout : Layout) (words : List ℕ) (slot level first size : 
 pub record CanHandUp (layout : Layout) (words : List ℕ) (slot level first size : ℕ) (scratch : List ℕ) : Type 0 where
   pub cut : CanCut layout words slot level first size
   pub few : countWord (slotPart (layout .width) words slot) < size + 16
+  pub room : length scratch ≡ 32
+
+-- the same of one slot's words
+pub record CanLayBeside (part : List ℕ) (slot level first size : ℕ) (scratch : List ℕ) : Type 0 where
+  pub run : RunWithin part first size
+  pub slot-to : slot ≤ 65535
+  pub level-to : level ≤ 16
+  pub few : countWord part < size + 16
   pub room : length scratch ≡ 32
 
 -- the two words of a block's element
@@ -69,6 +87,12 @@ abbrev pub FormMeets : Layout → ℕ → ℕ → ℕ → ℕ → ℕ → List �
 FormMeets layout slot level code first size before after Formed = BlockFormed layout slot level code first size (getD before 7 0) before after
 FormMeets layout slot level code first size before after NoSlot =
     (after ≡ before) × (getD before 7 0 < layout .slots → levelWord (slotPart (layout .width) before (getD before 7 0)) ≡ 0 → ⊥)
+
+-- the scratch has the elements beside the run, and the run as a block in this slot
+pub record LaidBeside (part : List ℕ) (slot level code first size : ℕ) (scratch scratch′ : List ℕ) (r : ℕ) : Type 0 where
+  pub rest-is : r + size ≡ countWord part + 1
+  pub long : length scratch′ ≡ length scratch
+  pub handed : take (2 * r) scratch′ ≡ withBlock (elementsIn part) first size (blockWords slot level code)
 
 -- the scratch has the elements beside the run and the run as a block in this slot; the slot holds that block
 pub record HandedUpBlock (layout : Layout) (slot level code first size : ℕ) (before after scratch scratch′ : List ℕ) (r : ℕ) : Type 0 where

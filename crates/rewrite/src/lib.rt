@@ -2,10 +2,11 @@
 ghost use Prim.Native.Nat.{_+_, _*_, _≤_, _<_};
 ghost use mathlib.Core.Path.{_≡_};
 ghost use lib.ListN.{length, take};
+ghost use lib.Seq.{paste};
 ghost use Rattle.store.specs.Layout.{LayoutFits};
 ghost use Rattle.store.specs.Slot.{slotPart};
-ghost use Rattle.store.specs.Splice.{CanSplice};
-ghost use Rattle.rewrite.specs.Rewrite.{CanCut, CanHandUp, WroteSlot, SplicedSlot, FormMeets, HandedUpBlock, HandedUpAll};
+ghost use Rattle.store.specs.Splice.{elementsIn, CanSplice};
+ghost use Rattle.rewrite.specs.Rewrite.{RunWithin, CanCut, CanLayBeside, CanHandUp, runWords, WroteSlot, RewroteSlot, SplicedSlot, LaidBeside, FormMeets, HandedUpBlock, HandedUpAll};
 use store::elements::copy_words;
 use store::elements::splice;
 use store::elements::write_header;
@@ -14,15 +15,35 @@ use store::free::release;
 use store::free::take_free;
 use store::sizes::Layout;
 use store::slots::offset;
+use store::slots::slot_part;
 use store::slots::wide;
 
-// A slot written anew.
-pub fn write_slot(part: &mut [u32], level: u32, code: u32, source: &[u32], count: usize)
+// The words of a slot written anew.
+fn write_slot(part: &mut [u32], level: u32, code: u32, source: &[u32], count: usize)
     requires { ⌜ ((8 + 2 * count ≤ length (now part)) × (length (now part) ≤ 158)) × (2 * count ≤ length (now source)) ⌝ }
     ensures { λ _. ⌜ WroteSlot (now (part .entry)) level code (take (2 * count) (now (source .entry))) (now (part .exit)) ⌝ }
 {
     write_header(part, level, code, count as u32);
     copy_words(part, 8, source, 2 * count);
+}
+
+// The same of a slot of the store.
+fn rewrite_slot(
+    store: &mut [u32],
+    layout: Layout,
+    slot: usize,
+    level: u32,
+    code: u32,
+    source: &[u32],
+    count: usize,
+)
+    requires { ⌜ LayoutFits layout (now store) × (slot < layout .slots) ⌝ }
+    requires { ⌜ (8 + 2 * count ≤ layout .width) × (2 * count ≤ length (now source)) ⌝ }
+    ensures { λ _. ⌜ RewroteSlot (layout .width) slot level code (take (2 * count) (now (source .entry))) (now (store .entry)) (now (store .exit)) ⌝ }
+{
+    let at = offset(layout, slot);
+    let width = layout.width;
+    write_slot(&mut store[at..at + width], level, code, source, count);
 }
 
 // 01: a slot being rewritten is lent on for writing as a part of the store.
@@ -42,6 +63,15 @@ pub fn splice_slot(
     let at = offset(layout, slot);
     let width = layout.width;
     splice(&mut store[at..at + width], place, removed, source, inserted);
+}
+
+// The words of a run of a slot's elements, copied out.
+fn copy_run(target: &mut [u32], at: usize, part: &[u32], first: usize, size: usize)
+    requires { ⌜ RunWithin (now part) first size × (at + 2 * size ≤ length (now target)) ⌝ }
+    ensures { λ _. ⌜ now (target .exit) ≡ paste (now (target .entry)) at (runWords (elementsIn (now (part .entry))) first size) (2 * size) ⌝ }
+{
+    let from = 8 + 2 * first;
+    copy_words(target, at, &part[from..], 2 * size);
 }
 
 pub enum Forming {
@@ -65,16 +95,33 @@ pub fn form_block(
     let FreeSlot::Taken(fresh) = take_free(store, layout) else {
         return Forming::NoSlot;
     };
-    let at = offset(layout, slot);
-    let width = layout.width;
-    let from = at + 8 + 2 * first;
     let mut moved = [0u32; 150];
-    copy_words(&mut moved, 0, &store[from..at + width], 2 * size);
+    copy_run(&mut moved, 0, slot_part(store, layout, slot), first, size);
     let one = [code, 1 + fresh + level * 1048576];
-    splice(&mut store[at..at + width], first, size, &one, 1);
-    let to = offset(layout, wide(fresh));
-    write_slot(&mut store[to..to + width], level, code, &moved, size);
+    splice_slot(store, layout, slot, first, size, &one, 1);
+    rewrite_slot(store, layout, wide(fresh), level, code, &moved, size);
     Forming::Formed
+}
+
+// The elements beside a run, with the run as a block in this slot between them, laid in the scratch.
+fn lay_beside(
+    part: &[u32],
+    slot: usize,
+    level: u32,
+    code: u32,
+    first: usize,
+    size: usize,
+    scratch: &mut [u32],
+) -> usize
+    requires { ⌜ CanLayBeside (now part) slot level first size (now scratch) ⌝ }
+    ensures { λ r. ⌜ LaidBeside (now (part .entry)) slot level code first size (now (scratch .entry)) (now (scratch .exit)) r ⌝ }
+{
+    let left = wide(part[2]) - first - size;
+    copy_run(scratch, 0, part, 0, first);
+    scratch[2 * first] = code;
+    scratch[2 * first + 1] = 1 + slot as u32 + level * 1048576;
+    copy_run(scratch, 2 * first + 2, part, first + size, left);
+    first + 1 + left
 }
 
 // A block that has turned underfull hands its elements to the block around it: those beside the run, and the run as a block,
@@ -92,20 +139,19 @@ pub fn hand_up_block(
     requires { ⌜ CanHandUp layout (now store) slot level first size (now scratch) ⌝ }
     ensures { λ r. ⌜ HandedUpBlock layout slot level code first size (now (store .entry)) (now (store .exit)) (now (scratch .entry)) (now (scratch .exit)) r ⌝ }
 {
-    let at = offset(layout, slot);
-    let width = layout.width;
-    let count = wide(store[at + 2]);
-    let left = count - first - size;
-    copy_words(scratch, 0, &store[at + 8..at + width], 2 * first);
-    scratch[2 * first] = code;
-    scratch[2 * first + 1] = 1 + slot as u32 + level * 1048576;
-    let run = at + 8 + 2 * first;
-    let behind = at + 8 + 2 * (first + size);
-    copy_words(scratch, 2 * first + 2, &store[behind..at + width], 2 * left);
+    let rest = lay_beside(
+        slot_part(store, layout, slot),
+        slot,
+        level,
+        code,
+        first,
+        size,
+        scratch,
+    );
     let mut moved = [0u32; 150];
-    copy_words(&mut moved, 0, &store[run..at + width], 2 * size);
-    write_slot(&mut store[at..at + width], level, code, &moved, size);
-    first + 1 + left
+    copy_run(&mut moved, 0, slot_part(store, layout, slot), first, size);
+    rewrite_slot(store, layout, slot, level, code, &moved, size);
+    rest
 }
 
 // An underfull block that forms none hands all its elements up, and its slot is free again.
@@ -113,10 +159,9 @@ pub fn hand_up_all(store: &mut [u32], layout: Layout, slot: usize, scratch: &mut
     requires { ⌜ CanHandUp layout (now store) slot 0 0 0 (now scratch) ⌝ }
     ensures { λ r. ⌜ HandedUpAll layout slot (now (store .entry)) (now (store .exit)) (now (scratch .entry)) (now (scratch .exit)) r ⌝ }
 {
-    let at = offset(layout, slot);
-    let width = layout.width;
-    let count = wide(store[at + 2]);
-    copy_words(scratch, 0, &store[at + 8..at + width], 2 * count);
+    let part = slot_part(store, layout, slot);
+    let count = wide(part[2]);
+    copy_run(scratch, 0, part, 0, count);
     release(store, layout, slot);
     count
 }

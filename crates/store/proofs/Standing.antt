@@ -13,6 +13,7 @@ use borrow.Author.Tests.{eq-eqb, eqb-true}
 use Rattle.pktree.specs.Lists.{Every}
 use Rattle.pktree.specs.Elements.{Forest, empty, pixel, block, size}
 use Rattle.pktree.proofs.Arranged.{Arranged}
+use Rattle.pktree.proofs.Absurd.{zero-is-not-one}
 use Rattle.store.specs.Slot.{slotPart, levelWord, codeWord, countWord, elementPart}
 use Rattle.store.specs.Placed.{Placed, nothing, pixelThen, blockThen, forestOf, slotsOf}
 use Rattle.store.specs.Reading.{pixelBefore, blockBefore, readElements, blockIn, readSlot}
@@ -90,9 +91,6 @@ unfolding readSlot
 complete-slot width words d s i c es h g b = slot-is-read (readSlot width words d) s (slotPart width words s) i c es h (λ u. complete width words d es u g b)
 
 -- from the reading to the slots
-impossible : {A : Type 0} → _≡_ {A = ℕ} 0 1 → A
-impossible z = absurd (omega arith)
-
 -- what a slot that can be read holds
 pub record FoundSlot (width : ℕ) (words : List ℕ) (d s : ℕ) (u : Placed) : Type 0 where
   pub level : ℕ
@@ -122,24 +120,24 @@ header-agrees i c level code true x t e f = go (eqb i level) refl (eqb c code) r
   where
     go : (p : Bool) → eqb i level ≡ p → (q : Bool) → eqb c code ≡ q → (i ≡ level) × (c ≡ code) × (x ≡ t)
     go true p true q = (eqb-true i level p, eqb-true c code q, (cc))
-    go true p false q = impossible (cc)
-    go false p true q = impossible (cc)
-    go false p false q = impossible (cc)
-header-agrees i c level code false x t e f = impossible (cc)
+    go true p false q = zero-is-not-one (cc)
+    go false p true q = zero-is-not-one (cc)
+    go false p false q = zero-is-not-one (cc)
+header-agrees i c level code false x t e f = zero-is-not-one (cc)
 
 module _ (width : ℕ) (words : List ℕ) (d : ℕ) (one : (s : ℕ) (u : Placed) → readSlot width words d s ≡ some u → FoundSlot width words d s u) where
   found-elements : (n : ℕ) (ws : List ℕ) (t : Placed) → readElements (readSlot width words d) n ws ≡ some t → FoundElements width words d n ws t
   found-elements zero ws t e =
       let z : nothing ≡ t = cc in
       subst (λ (u : Placed). FoundElements width words d 0 ws u) z (record { count = refl; names = refl; stands = tt; shallow = omega arith })
-  found-elements (suc n) [] t e = impossible (cc)
-  found-elements (suc n) (a ∷ []) t e = impossible (cc)
+  found-elements (suc n) [] t e = zero-is-not-one (cc)
+  found-elements (suc n) (a ∷ []) t e = zero-is-not-one (cc)
   found-elements (suc n) (c ∷ zero ∷ ws) t e = go (readElements (readSlot width words d) n ws) refl (found-elements n ws)
     where
       go : (o : Option Placed) → readElements (readSlot width words d) n ws ≡ o
           → ((u : Placed) → readElements (readSlot width words d) n ws ≡ some u → FoundElements width words d n ws u)
           → FoundElements width words d (suc n) (c ∷ 0 ∷ ws) t
-      go none q ih = impossible (cc)
+      go none q ih = zero-is-not-one (cc)
       go (some u) q ih =
           let z : pixelThen c u ≡ t = cc in
           let r = ih u q in
@@ -156,10 +154,10 @@ module _ (width : ℕ) (words : List ℕ) (d : ℕ) (one : (s : ℕ) (u : Placed
       go : (p : Option Placed) → readSlot width words d (tag % 1048576) ≡ p → (o : Option Placed) → readElements (readSlot width words d) n ws ≡ o
           → ((u : Placed) → readElements (readSlot width words d) n ws ≡ some u → FoundElements width words d n ws u)
           → FoundElements width words d (suc n) (c ∷ suc tag ∷ ws) t
-      go none y o q ih = impossible (cc)
-      go (some nothing) y o q ih = impossible (cc)
-      go (some (pixelThen b x)) y o q ih = impossible (cc)
-      go (some (blockThen s i b es x)) y none q ih = impossible (cc)
+      go none y o q ih = zero-is-not-one (cc)
+      go (some nothing) y o q ih = zero-is-not-one (cc)
+      go (some (pixelThen b x)) y o q ih = zero-is-not-one (cc)
+      go (some (blockThen s i b es x)) y none q ih = zero-is-not-one (cc)
       go (some (blockThen s i b es x)) y (some u) q ih =
           let f = one (tag % 1048576) (blockThen s i b es x) y in
           let r = ih u q in
@@ -184,7 +182,7 @@ module _ (width : ℕ) (words : List ℕ) (d : ℕ) (one : (s : ℕ) (u : Placed
 
 pub found : (width : ℕ) (words : List ℕ) (d s : ℕ) (u : Placed) → readSlot width words d s ≡ some u → FoundSlot width words d s u
 unfolding readSlot
-found width words zero s u e = impossible (cc)
+found width words zero s u e = zero-is-not-one (cc)
 found width words (suc d) s u e =
     go (readElements (readSlot width words d) (countWord (slotPart width words s)) (elementPart (slotPart width words s))) refl
     (found-elements width words d (found width words d))
@@ -195,7 +193,7 @@ found width words (suc d) s u e =
     go : (o : Option Placed) → readElements (readSlot width words d) (countWord part) (elementPart part) ≡ o
         → ((n : ℕ) (ws : List ℕ) (t : Placed) → readElements (readSlot width words d) n ws ≡ some t → FoundElements width words d n ws t)
         → FoundSlot width words (suc d) s u
-    go none q g = impossible (cc)
+    go none q g = zero-is-not-one (cc)
     go (some es) q g =
         let r = g (countWord part) (elementPart part) es q in
         let z : u ≡ blockThen s (levelWord part) (codeWord part) es nothing = cc in

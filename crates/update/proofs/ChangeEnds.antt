@@ -13,6 +13,7 @@ use Rattle.pktree.specs.Tree.{pixels}
 use Rattle.pktree.proofs.Pixels.{pixels-of-tree-are-set}
 use Rattle.pktree.proofs.LocalLaw.{tree-exactly-local}
 use Rattle.pktree.proofs.SetChanges.{added-at-place, removed-at-place}
+use Rattle.pktree.proofs.Absurd.{zero-is-not-one}
 use Rattle.store.specs.declared.sizes.Sizes.{Sizes}
 use Rattle.store.specs.Sizes.{panelOf, slotWidth, sizesOf, storeWords, UsableStore}
 use Rattle.store.specs.declared.sizes.Layout.{Layout}
@@ -30,11 +31,11 @@ use Rattle.change.proofs.Settled.{Settled}
 use Rattle.descent.specs.declared.Located.{Located}
 use Rattle.descent.specs.Located.{LocatedIn, LocateMeets}
 use Rattle.descent.proofs.OpenedByPixel.{marked-exactly}
-use Rattle.update.specs.declared.step.Change.{Change}
+use Rattle.step.specs.declared.Change.{Change}
 use Rattle.update.specs.declared.marks.Marking.the-variants as marking
 use Rattle.update.specs.declared.marks.Clearing.the-variants as clearing
 use Rattle.update.specs.Changed.{MarkAnswer, ClearAnswer}
-use Rattle.update.specs.Step.{Kept}
+use Rattle.step.specs.Step.{Kept}
 use Rattle.update.specs.Settle.{CanSettle, SettleMeets}
 use Rattle.update.proofs.ChangeBegins.{settingOf, Begins, mark-begins, clear-begins}
 
@@ -131,8 +132,7 @@ module _ {before : List ℕ} {sizes : Sizes} {layout : Layout} {code : ℕ} {loc
   opens : located .damaged ≡ false → CannotOpen (slotWidth (getD before 2 0)) before 0 (getD before 1 0) 0 → ⊥
   opens e shut =
       let t : located .damaged ≡ true = u .meets .closed (rw (ap (λ (z : Layout). z .width) layout-is, order-is) shut) in
-      let z : _≡_ {A = ℕ} 0 1 = cc in
-      omega arith
+      zero-is-not-one (cc)
 
   -- one word of the head written after what is kept
   module _ {mid : List ℕ} (kept : Kept layout before mid) (i v : ℕ) (small : i < 8) where
@@ -150,8 +150,7 @@ module _ {before : List ℕ} {sizes : Sizes} {layout : Layout} {code : ℕ} {loc
   pub never-damaged : located .damaged ≡ true → (was : List ℕ) → Holds before was → ⊥
   never-damaged e was h =
       let f : located .damaged ≡ false = found was h .0 in
-      let z : _≡_ {A = ℕ} 0 1 = cc in
-      omega arith
+      zero-is-not-one (cc)
 
   pub mark-damaged : {mid : List ℕ} → Kept layout before mid → ((was : List ℕ) → Holds before was → ⊥) → MarkAnswer before (set mid 0 0) code marking.Damaged
   mark-damaged kept never =
@@ -244,14 +243,12 @@ module _ {before : List ℕ} {sizes : Sizes} {layout : Layout} {code : ℕ} {loc
     pub mark-never-fails : {mid : List ℕ} → SettleMeets change located 0 1 before mid false → located .marked ≡ false → getD before 6 0 < sizes .most → (was : List ℕ) → Holds before was → ⊥
     mark-never-fails s e room was h =
         let t : false ≡ true = mark-settles s e room was h .0 in
-        let z : _≡_ {A = ℕ} 0 1 = cc in
-        omega arith
+        zero-is-not-one (cc)
 
     pub clear-never-fails : {mid : List ℕ} → SettleMeets change located 1 0 before mid false → located .marked ≡ true → (was : List ℕ) → Holds before was → ⊥
     clear-never-fails s e was h =
         let t : false ≡ true = clear-settles s e was h .0 in
-        let z : _≡_ {A = ℕ} 0 1 = cc in
-        omega arith
+        zero-is-not-one (cc)
 
     module _ (whole : located .damaged ≡ false) {mid : List ℕ} where
       pub mark-settled : located .marked ≡ false → getD before 6 0 < sizes .most → SettleMeets change located 0 1 before mid true

@@ -16,10 +16,10 @@ use Rattle.descent.specs.Way.{Frame}
 use Rattle.descent.specs.Located.{PathNames}
 use Rattle.change.proofs.Pending.{Setting, Pending}
 use Rattle.change.proofs.Settled.{Settled}
-use Rattle.update.specs.declared.step.Change.{Change}
-use Rattle.update.specs.declared.step.Stepped.{Stepped}
-use Rattle.update.specs.declared.step.Stepped.the-variants.{Done, Up, Damaged}
-use Rattle.update.specs.Step.{Kept, InSetting, PendingAbove, SteppedRight, StepMeets}
+use Rattle.step.specs.declared.Change.{Change}
+use Rattle.step.specs.declared.Stepped.{Stepped}
+use Rattle.step.specs.declared.Stepped.the-variants.{Done, Up, Damaged}
+use Rattle.step.specs.Step.{Kept, InSetting, PendingAbove, SteppedRight, StepMeets}
 use Rattle.update.specs.Settle.{PendingAt, OfChange}
 
 -- what holds at each turn, on any words

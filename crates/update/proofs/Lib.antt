@@ -1,9 +1,3 @@
-pub mod BlockSizes
-pub mod PutLaws
-pub mod PlacedWords
-pub mod StepLaws
-pub mod RegroupEnds
-pub mod StepEnds
 pub mod Climbing
 pub mod ChangeBegins
 pub mod ChangeEnds

@@ -13,8 +13,8 @@ use Rattle.descent.specs.Way.{Frame}
 use Rattle.descent.specs.Located.{PathNames}
 use Rattle.change.proofs.Pending.{Setting, Pending}
 use Rattle.change.proofs.Settled.{Settled}
-use Rattle.update.specs.declared.step.Change.{Change}
-use Rattle.update.specs.Step.{Kept}
+use Rattle.step.specs.declared.Change.{Change}
+use Rattle.step.specs.Step.{Kept}
 
 pub record CanSettle (change : Change) (words : List ℕ) (located : Located) (removed inserted : ℕ) : Type 0 where
   pub fits : LayoutFits (change .layout) words

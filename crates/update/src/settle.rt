@@ -1,9 +1,9 @@
 ghost use Prim.Native.Nat.{_≤_};
 ghost use Rattle.update.specs.Settle.{CanSettle, SettleMeets};
-use crate::step::Change;
-use crate::step::Stepped;
-use crate::step::step;
 use descent::Located;
+use step::Change;
+use step::Stepped;
+use step::step;
 use store::slots::wide;
 
 // The change goes up the path, block by block, until it is at rest: true; false where the words cannot be a register's.

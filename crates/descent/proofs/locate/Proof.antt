@@ -76,6 +76,7 @@ returns-2 c =
     let opened = c .before .before .before .before in
     let turn = opened .before .before .before .before .before .before .before in
     found-here (turn .before .before .pre .0) (turn .loop .inv) (header opened) (c .before .place .given .0 .0) (c .before .place .given .0 .1 .0)
+    (opened .before .before .before .before .before .before .loop-test .taken)
     (subst₂ (λ (p : List ℕ) (r : Ahead). Looked p (opened .before .count .given .0 .0) (turn .before .before .args .code) r)
     (part-is (opened .before .before .before .before)) (c .before .place .given .1) (c .before .before .before .look .ensures))
 

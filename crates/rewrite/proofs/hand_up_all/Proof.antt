@@ -1,39 +1,39 @@
 -- `rewrite::hand_up_all` meets its contract: all elements are a run, found in the scratch, and the slot is released.
-use Prim.Native.Nat.{_+_}
 use native.Mathlib.Omega.{arith}
-use mathlib.Core.Path.{_≡_, _∙_}
+use mathlib.Core.Path.{_≡_}
 use borrow.Author.Needs.{needs}
-use borrow.Rule.Slice.PartMut.{mid-len}
 use Rattle.store.specs.Slot.{slotPart, countWord}
-use Rattle.rewrite.proofs.Runs.{count-read, run-copied, whole-run}
+use Rattle.store.proofs.Usable.{slot-long}
+use Rattle.rewrite.proofs.Runs.{whole-within, run-copied, whole-run}
 use Rattle.rewrite.proofs.hand_up_all.Statement.{statement}
 use Rattle.rewrite.proofs.hand_up_all.Tie as tie
 
--- the number of elements that was read
-counted : (c : tie.After-wide) → (let a = c .before .before .before .before .before .args in c .wide .result ≡ countWord (slotPart (a .layout .width) (a .store .now) (a .slot)))
-counted c = count-read _ _ _ _ _ (c .before .before .before .before .before .pre .cut .fits .within) (c .before .before .offset .ensures) (c .wide .ensures)
+shared-slice-read-wide : tie.Need-shared-slice-read-wide
+shared-slice-read-wide c =
+    let s = c .before .before .before .before .before in
+    let a = s .args in
+    rw (c .before .slot-part .ensures) (omega (arith, slot-long (a .layout) (a .store .now) (a .slot) (s .pre .cut .fits) (s .pre .cut .slot-below), s .pre .cut .fits .within))
 
-copy-words-requires : tie.Need-copy-words-requires
-copy-words-requires c κs =
-    let w = c .before .before .before in
-    let n = counted w in
-    let a = w .before .before .before .before .before .args in
-    let at = w .before .before .offset .result in
-    (omega arith, omega (arith, mid-len (at + 8) (at + a .layout .width) (a .store .now) (omega arith)))
+copy-run-requires : tie.Need-copy-run-requires
+copy-run-requires c κs =
+    let s = c .before .before .before .before .before .before .before in
+    let p = c .before .before .before .slot-part in
+    let few = rw (← p .ensures) at (s .pre .few) in
+    (whole-within (s .pre .cut) (p .ensures) (c .before .wide .ensures), omega (arith, few))
 
 returns : tie.Need-returns
 returns c =
     let copied = c .before .before .before .before .before .before in
-    let w = copied .before .before .before .before in
-    let o = w .before .before .offset in
-    let a = w .before .before .before .before .before .args in
-    let n = counted w in
+    let w = copied .before .before in
+    let p = w .before .before .slot-part in
+    let s = w .before .before .before .before .before .before in
+    let a = s .args in
+    let n : w .wide .result ≡ countWord (slotPart (a .layout .width) (a .store .now) (a .slot)) = rw (p .ensures) at (w .wide .ensures) in
+    let run = rw (p .ensures) at (run-copied _ _ 0 (w .wide .result) (whole-within (s .pre .cut) (p .ensures) (w .wide .ensures)) (copied .copy-run .ensures)) in
     record {
       rest-is = n;
-      long = copied .copy-words .kept .0;
-      handed = run-copied (a .layout .width) (a .slot) (o .result) (o .result + 8) 0 (w .wide .result) (a .store .now) (a .scratch .now) (o .ensures .is)
-          (omega arith) (omega arith) (omega arith) (omega arith) (copied .copy-words .ensures)
-          ∙ rw n (whole-run (slotPart (a .layout .width) (a .store .now) (a .slot)));
+      long = copied .copy-run .kept .0;
+      handed = rw (run, n) (whole-run (slotPart (a .layout .width) (a .store .now) (a .slot)));
       freed = c .before .before .release .ensures;
     }
 
@@ -42,18 +42,9 @@ hand-up-all-spec =
     tie.close
     (tie.spec
     (λ c κs. search needs)
-    (λ c. search needs)
-    (λ c. search needs)
-    (λ c. search needs)
+    shared-slice-read-wide
     (λ c κs. search needs)
-    (λ c. search needs)
-    (λ c. search needs)
-    (λ c. search needs)
-    (λ c. search needs)
-    (λ c. search needs)
-    (λ c. search needs)
-    (λ c. omega (arith, counted (c .before .before .before)))
-    copy-words-requires
+    copy-run-requires
     (λ c κs. search needs)
     (λ c. search needs)
     (λ c. search needs)

@@ -4,7 +4,7 @@ use mathlib.Core.Path.{refl}
 use borrow.Author.Needs.{needs}
 use borrow.Author.Tests.{not-true, not-false}
 use Rattle.store.proofs.Usable.{layout-fits}
-use Rattle.update.proofs.RegroupEnds.{kept-same}
+use Rattle.step.proofs.RegroupEnds.{kept-same}
 use Rattle.update.proofs.ChangeEnds.{LookedUp, never-damaged, never-uncounted, clear-damaged, clear-unmarked, can-settle, clear-never-fails, clear-settled}
 use Rattle.update.proofs.marks.clear.Statement.{statement}
 use Rattle.update.proofs.marks.clear.Tie as tie

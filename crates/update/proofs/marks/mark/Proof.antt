@@ -4,7 +4,7 @@ use mathlib.Core.Path.{refl}
 use borrow.Author.Needs.{needs}
 use borrow.Author.Tests.{not-true, not-false}
 use Rattle.store.proofs.Usable.{layout-fits}
-use Rattle.update.proofs.RegroupEnds.{kept-same}
+use Rattle.step.proofs.RegroupEnds.{kept-same}
 use Rattle.update.proofs.ChangeEnds.{LookedUp, never-damaged, mark-damaged, mark-already, mark-full, can-settle, mark-never-fails, mark-settled}
 use Rattle.update.proofs.marks.mark.Statement.{statement}
 use Rattle.update.proofs.marks.mark.Tie as tie

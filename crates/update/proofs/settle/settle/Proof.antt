@@ -7,7 +7,7 @@ use lib.ListN.{getD, set, replicate}
 use borrow.Author.Needs.{needs}
 use borrow.Author.Tests.{eqb-true, eqb-false}
 use Rattle.change.proofs.Pending.{Setting}
-use Rattle.update.specs.Step.{Kept, UpTo16}
+use Rattle.step.specs.Step.{Kept, UpTo16}
 use Rattle.update.specs.Settle.{PendingAt}
 use Rattle.update.proofs.Climbing.{InBounds, Carried, kept-then, fits-kept, rests, never-damaged, never-above-root, climbs, place-small, begins}
 use Rattle.update.proofs.settle.settle.Statement.{statement}

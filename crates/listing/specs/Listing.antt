@@ -1,0 +1,76 @@
+-- What the walk that writes the found codes leaves in the output.
+use Prim.Native.Nat.{ℕ, suc, _+_, _≤_, _<_}
+use mathlib.Core.Path.{_≡_}
+use mathlib.Core.List.{List, _++_}
+use lib.ListN.{length, getD, take, drop}
+use Rattle.pktree.specs.Elements.{Forest, empty, pixel, block}
+use Rattle.pktree.specs.PixelSet.{member}
+use Rattle.pktree.specs.Tree.{pixels, tree as setTree}
+use Rattle.pktree.specs.Window as tree
+use Rattle.pktree.specs.Window.{found, openedByWindow}
+use Rattle.store.specs.Sizes.{panelOf, slotWidth, sizesOf}
+use Rattle.store.specs.Sound.{Holds}
+use Rattle.store.specs.Opening.{CannotOpen}
+use Rattle.store.specs.Placed.{Placed, forestOf}
+use Rattle.store.proofs.BlockView.{BlockView, ChildView}
+use Rattle.store.specs.declared.elements.Element.{Element}
+use Rattle.store.specs.declared.elements.Element.the-variants.{Pixel, Block}
+use Rattle.query.specs.declared.count.Look.{Look}
+use Rattle.query.specs.declared.count.Counted.{Counted}
+use Rattle.query.specs.declared.count.Counted.the-variants.{Seen, Damaged}
+use Rattle.listing.specs.declared.Listed.{Listed}
+use Rattle.listing.specs.declared.Listed.the-variants.{Written, Short, Broken}
+use Rattle.query.specs.Corners.{windowOf}
+use Rattle.query.specs.Counting.{foundIn, Ordered, BeginsOnPanel, CountBounds, WithinSizes, seen, RoomFor}
+
+-- these codes written from index `at` on, the rest unchanged
+abbrev pub writtenAt : List ℕ → ℕ → List ℕ → List ℕ
+writtenAt output at codes = take at output ++ (codes ++ drop (at + length codes) output)
+
+-- the answer is count's, and the codes found among these elements stand in the output from index `at` on
+pub record Wrote (look : Look) (f : Forest) (at opened : ℕ) (before after : List ℕ) (r : Counted) : Type 0 where
+  pub answer : r ≡ seen (windowOf (look .window)) at opened f
+  pub output : after ≡ writtenAt before at (found (windowOf (look .window)) (pixels f))
+
+pub record ListMeets (look : Look) (words : List ℕ) (slot level code at opened : ℕ) (before after : List ℕ) (r : Counted) : Type 0 where
+  pub bounds : CountBounds look r
+  pub long : length after ≡ length before
+  pub right : (k : ℕ) (es : Placed) → BlockView k (look .layout .width) (look .layout .slots) words slot level code es → Ordered (windowOf (look .window))
+      → RoomFor look at (suc opened) (forestOf es) → at + foundIn (windowOf (look .window)) (forestOf es) ≤ length before
+      → Wrote look (forestOf es) at (suc opened) before after r
+  pub closed : CannotOpen (look .layout .width) words slot level code → r ≡ Damaged
+
+abbrev pub ListElementRight : Look → List ℕ → Element → ℕ → ℕ → ℕ → List ℕ → List ℕ → Counted → Type 0
+ListElementRight look words (Pixel c) level at opened before after r =
+    RoomFor look at opened (pixel c empty) → at + foundIn (windowOf (look .window)) (pixel c empty) ≤ length before
+    → Wrote look (pixel c empty) at opened before after r
+ListElementRight look words (Block s i c) level at opened before after r =
+    (k code : ℕ) (fs : Placed) → ChildView k (look .layout .width) (look .layout .slots) words level code s i c fs → Ordered (windowOf (look .window))
+    → RoomFor look at opened (block i c (forestOf fs) empty) → at + foundIn (windowOf (look .window)) (block i c (forestOf fs) empty) ≤ length before
+    → Wrote look (block i c (forestOf fs) empty) at opened before after r
+
+pub record ListElementMeets (look : Look) (words : List ℕ) (element : Element) (level at opened : ℕ) (before after : List ℕ) (r : Counted) : Type 0 where
+  pub bounds : CountBounds look r
+  pub long : length after ≡ length before
+  pub right : ListElementRight look words element level at opened before after r
+
+-- list's answer, with what it leaves in the output
+abbrev pub ListCase : List ℕ → tree.Window → List ℕ → List ℕ → Forest → List ℕ → Listed → Type 0
+ListCase words window before after t set (Written n opened) =
+    (n ≡ length (found window set)) × (opened ≡ openedByWindow window t) × (n ≤ length before) × (after ≡ writtenAt before 0 (found window set))
+ListCase words window before after t set (Short n) = (n ≡ length (found window set)) × (length before < n) × (after ≡ before)
+ListCase words window before after t set Broken = ⊥
+
+-- whatever the words are: never more pixels found, or found to be needed, than N, nor more blocks opened than S
+abbrev pub ListWithin : List ℕ → Listed → Type 0
+ListWithin words (Written n opened) = WithinSizes words n opened
+ListWithin words (Short n) = WithinSizes words n 0
+ListWithin words Broken = Unit {0}
+
+pub record ListAnswer (words : List ℕ) (window : tree.Window) (before after : List ℕ) (r : Listed) : Type 0 where
+  pub bounds : ListWithin words r
+  pub sound : (set : List ℕ) → Holds words set → Ordered window → BeginsOnPanel (panelOf (sizesOf words)) window
+      → ListCase words window before after (setTree (panelOf (sizesOf words)) (member set)) set r
+  pub short : (n : ℕ) → r ≡ Short n → (after ≡ before) × (length before < n)
+  pub long : length after ≡ length before
+  pub closed : CannotOpen (slotWidth (getD words 2 0)) words 0 (getD words 1 0) 0 → r ≡ Broken

@@ -1,0 +1,30 @@
+-- `rewrite::rewrite_slot` meets its contract: the part that is lent and comes back written is the slot.
+use borrow.Author.Needs.{needs}
+use Rattle.store.proofs.SlotWrites.{slot-given-back}
+use Rattle.store.proofs.Usable.{slot-within}
+use Rattle.rewrite.proofs.rewrite_slot.Statement.{statement}
+use Rattle.rewrite.proofs.rewrite_slot.Tie as tie
+
+returns : tie.Need-returns
+returns c =
+    let r = c .before .before .write-slot in
+    let o = c .before .before .before .before .offset in
+    let s = c .before .before .before .before .before .before .before in
+    let a = s .args in
+    let lies = slot-within (a .layout) (a .slot) (a .store .now) (s .pre .0 .0) (s .pre .0 .1) in
+    let g = slot-given-back (a .layout .width) (a .slot) (o .result) (a .store .now) (r .last .0) (o .ensures .is) lies (r .kept .0) in
+    record { now-says = rw (g .self) (r .ensures .now-says); only = g .only }
+
+pub rewrite-slot-spec : {M : Type 1} → statement M
+rewrite-slot-spec =
+    tie.close
+    (tie.spec
+    (λ c κs. search needs)
+    (λ c. search needs)
+    (λ c. search needs)
+    (λ c. search needs)
+    (λ c. search needs)
+    (λ c. search needs)
+    (λ c κs. search needs)
+    (λ c. search needs)
+    returns)

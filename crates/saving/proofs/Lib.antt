@@ -1,0 +1,6 @@
+pub mod EntryWrites
+pub mod SavedTo
+pub mod SavedBlock
+pub mod SavedImage
+pub mod SaveAnswers
+pub mod WholePanel

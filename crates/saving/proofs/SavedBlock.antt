@@ -1,0 +1,88 @@
+-- What each way out of the walk that writes an image shows: a block's, then an element's.
+use Prim.Native.Nat.{ℕ, _+_, _≤_, _<_}
+use native.Mathlib.Omega.{arith}
+use mathlib.Core.Path.{_≡_, refl, ap, _∙_}
+use mathlib.Core.List.{List, []}
+use lib.ListN.{length, length-append}
+use Rattle.pktree.specs.Elements.{Forest, empty, block}
+use Rattle.pktree.specs.Entries.{entries}
+use Rattle.store.specs.declared.elements.Element.the-variants.{Pixel, Block}
+use Rattle.store.specs.Layout.{LayoutFits}
+use Rattle.store.specs.Placed.{forestOf}
+use Rattle.saving.specs.declared.Saving.{Saving}
+use Rattle.saving.specs.declared.Saved.{Saved}
+use Rattle.saving.specs.declared.Saved.the-variants.{Next, Damaged}
+use Rattle.saving.specs.Saving.{putEntry, SaveMeets, SaveElementMeets}
+use Rattle.query.proofs.OpenedSlot.{SlotOpened, SlotShut, not-both, view-opens}
+use Rattle.saving.proofs.EntryWrites.{length-put-entry}
+use Rattle.saving.proofs.SavedTo.{own-entry-first, SavedTo, saved-all, saved-damaged}
+
+-- the entries of a block are its own and those of its elements
+block-room : (level code at n : ℕ) (f : Forest) → at + length (entries (block level code f empty)) ≤ n → at + 1 + length (entries f) ≤ n
+block-room level code at n f h = omega (arith, length-append (entries f) [])
+
+-- the own entry and those of the elements keep the length
+after-own-entry : (n at : ℕ) (output own after : List ℕ) (level code : ℕ) → own ≡ putEntry n at output level code → length after ≡ length own
+    → length after ≡ length output
+after-own-entry n at output own after level code put long = long ∙ ap length put ∙ length-put-entry n at output level code
+
+module _ {saving : Saving} {words : List ℕ} {slot level code : ℕ} {output : List ℕ} {at : ℕ} where
+  -- even the own entry has no room
+  pub block-no-room : saving .entries ≤ at → SaveMeets saving words slot level code output output at Damaged
+  block-no-room h = record { bounds = tt; long = refl; right = λ k es view room. absurd (omega arith); closed = λ shut. refl }
+
+  -- the block of a sound store opens
+  pub block-shut : LayoutFits (saving .layout) words → SlotShut (saving .layout .width) words slot level code
+      → SaveMeets saving words slot level code output output at Damaged
+  block-shut fits s = record { bounds = tt; long = refl; right = λ k es view room. absurd (view-opens fits view s); closed = λ shut. refl }
+
+  module _ {own after : List ℕ} (put : own ≡ putEntry (saving .entries) at output level code) (long : length after ≡ length own) where
+    -- an element was found damaged
+    pub block-damaged : {i : ℕ} → SavedTo saving words slot level code own after (at + 1) i Damaged → SaveMeets saving words slot level code output after at Damaged
+    block-damaged to =
+        record {
+          bounds = tt;
+          long = after-own-entry (saving .entries) at output own after level code put long;
+          right = λ k es view room. absurd (saved-damaged to k es view (block-room level code at (saving .entries) (forestOf es) room));
+          closed = λ shut. refl;
+        }
+
+    -- all elements are written, after the own entry
+    pub block-saved : {count i next : ℕ} → SlotOpened (saving .layout .width) words slot level code count → count ≤ i → next ≤ saving .entries
+        → SavedTo saving words slot level code own after (at + 1) i (Next next) → SaveMeets saving words slot level code output after at (Next next)
+    block-saved o end bound to =
+        record {
+          bounds = bound;
+          long = after-own-entry (saving .entries) at output own after level code put long;
+          right = λ k es view room.
+              own-entry-first (rw put at (saved-all o end to k es view (block-room level code at (saving .entries) (forestOf es) room)));
+          closed = λ shut. absurd (not-both o shut);
+        }
+
+module _ {saving : Saving} {words : List ℕ} {level : ℕ} {output : List ℕ} {at : ℕ} where
+  -- a pixel has one entry, which has no room
+  pub pixel-no-room : {c : ℕ} → saving .entries ≤ at → SaveElementMeets saving words (Pixel c) level output output at Damaged
+  pixel-no-room h = record { bounds = tt; long = refl; right = λ room. absurd (omega arith) }
+
+  -- its entry is written
+  pub pixel-saved : {c : ℕ} {after : List ℕ} → at < saving .entries → after ≡ putEntry (saving .entries) at output 0 c
+      → SaveElementMeets saving words (Pixel c) level output after at (Next (at + 1))
+  pixel-saved {c} h put =
+      record {
+        bounds = omega arith;
+        long = ap length put ∙ length-put-entry (saving .entries) at output 0 c;
+        right = λ room. record { answer = refl; output = put };
+      }
+
+  -- levels fall in a sound store
+  pub block-not-lower : {s i c : ℕ} → level ≤ i → SaveElementMeets saving words (Block s i c) level output output at Damaged
+  block-not-lower h = record { bounds = tt; long = refl; right = λ k code fs child room. absurd (omega (arith, child .below)) }
+
+  -- the slots of a sound store are below their number
+  pub block-beyond : {s i c : ℕ} → saving .layout .slots ≤ s → SaveElementMeets saving words (Block s i c) level output output at Damaged
+  block-beyond h = record { bounds = tt; long = refl; right = λ k code fs child room. absurd (omega (arith, child .view .slot-below)) }
+
+  -- a block of a lower level is written by its own walk
+  pub block-within : {s i c : ℕ} {after : List ℕ} {r : Saved} → SaveMeets saving words s i c output after at r
+      → SaveElementMeets saving words (Block s i c) level output after at r
+  block-within h = record { bounds = h .bounds; long = h .long; right = λ k code fs child room. h .right k fs (child .view) room }

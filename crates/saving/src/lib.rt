@@ -1,0 +1,170 @@
+// Saving: a walk over every block, which writes the image.
+ghost use Prim.Native.Nat.{_+_, _*_, _≤_, _<_};
+ghost use mathlib.Core.Path.{_≡_};
+ghost use lib.ListN.{length};
+ghost use Rattle.saving.specs.Saving.{putFour, putEntry, CanSave, SaveMeets, SaveElementMeets, HeaderPut, SaveAnswer};
+ghost use Rattle.store.specs.Sizes.{UsableStore, sizesOf};
+use query::count::Counted;
+use query::count::count;
+use query::window::Window;
+use store::elements::Element;
+use store::elements::element_at;
+use store::opening::Opening;
+use store::opening::open_part;
+use store::sizes::Layout;
+use store::sizes::Sizes;
+use store::sizes::layout_of;
+use store::slots::slot_part;
+use store::slots::wide;
+
+// Four bytes, the low one first.
+pub fn put_four(output: &mut [u8], at: usize, value: u32)
+    requires { ⌜ at + 4 ≤ length (now output) ⌝ }
+    ensures { λ _. ⌜ now (output .exit) ≡ putFour (now (output .entry)) at value ⌝ }
+{
+    output[at] = (value % 256) as u8;
+    output[at + 1] = (value / 256 % 256) as u8;
+    output[at + 2] = (value / 65536 % 256) as u8;
+    output[at + 3] = (value / 16777216 % 256) as u8;
+}
+
+// Entry `at` of `entries`: its code in the first array, its level in the second.
+pub fn put_entry(output: &mut [u8], entries: usize, at: usize, level: u32, code: u32)
+    requires { ⌜ (10 + 5 * entries ≤ length (now output)) × ((at < entries) × (level ≤ 16)) ⌝ }
+    ensures { λ _. ⌜ now (output .exit) ≡ putEntry entries at (now (output .entry)) level code ⌝ }
+{
+    put_four(output, 10 + 4 * at, code);
+    output[10 + 4 * entries + at] = (level % 256) as u8;
+}
+
+// Where the slots lie, and how many entries the image has.
+pub struct Saving {
+    pub layout: Layout,
+    pub entries: usize,
+}
+
+pub enum Saved {
+    Next(usize),
+    Damaged,
+}
+
+// The entries of the block in this slot, from index `at` on: its own, then those of its elements.
+pub fn save_block(
+    store: &[u32],
+    saving: Saving,
+    slot: usize,
+    level: u32,
+    code: u32,
+    output: &mut [u8],
+    at: usize,
+) -> Saved
+    requires { ⌜ CanSave saving (now store) slot level (now output) at ⌝ }
+    ensures { λ r. ⌜ SaveMeets saving (now (store .entry)) slot level code (now (output .entry)) (now (output .exit)) at r ⌝ }
+{
+    let layout = saving.layout;
+    let entries = saving.entries;
+    if entries <= at {
+        return Saved::Damaged;
+    }
+    let part = slot_part(store, layout, slot);
+    let Opening::Elements(count) = open_part(part, level, code) else {
+        return Saved::Damaged;
+    };
+    put_entry(output, entries, at, level, code);
+    let mut next = at + 1;
+    let mut i = 0;
+    while i < count {
+        let element = element_at(part, i);
+        let Saved::Next(n) = save_element(store, saving, element, level, output, next) else {
+            return Saved::Damaged;
+        };
+        next = n;
+        i += 1;
+    }
+    Saved::Next(next)
+}
+
+pub fn save_element(
+    store: &[u32],
+    saving: Saving,
+    element: Element,
+    level: u32,
+    output: &mut [u8],
+    at: usize,
+) -> Saved
+    requires { ⌜ CanSave saving (now store) 0 level (now output) at ⌝ }
+    ensures { λ r. ⌜ SaveElementMeets saving (now (store .entry)) element level (now (output .entry)) (now (output .exit)) at r ⌝ }
+{
+    let layout = saving.layout;
+    let entries = saving.entries;
+    match element {
+        Element::Pixel(code) => {
+            if entries <= at {
+                return Saved::Damaged;
+            }
+            put_entry(output, entries, at, 0, code);
+            Saved::Next(at + 1)
+        }
+        Element::Block {
+            slot,
+            level: inner,
+            code,
+        } => {
+            if level <= inner {
+                return Saved::Damaged;
+            }
+            if layout.slots <= wide(slot) {
+                return Saved::Damaged;
+            }
+            save_block(store, saving, wide(slot), inner, code, output, at)
+        }
+    }
+}
+
+// The sizes at the head of an image.
+pub fn put_header(output: &mut [u8], order: u32, k: u32, entries: u32, pixels: u32)
+    requires { ⌜ (10 ≤ length (now output)) × ((order ≤ 16) × (k ≤ 16)) ⌝ }
+    ensures { λ _. ⌜ HeaderPut (now (output .entry)) order k entries pixels (now (output .exit)) ⌝ }
+{
+    output[0] = (order % 256) as u8;
+    output[1] = (k % 256) as u8;
+    put_four(output, 2, entries);
+    put_four(output, 6, pixels);
+}
+
+pub enum Imaged {
+    Whole(usize),
+    TooShort(usize),
+    Unreadable,
+}
+
+// 01's save, where refusal 3 does not apply: a count of the whole panel gives the numbers of pixels and blocks, then each entry is written once.
+pub fn save(store: &[u32], sizes: Sizes, output: &mut [u8]) -> Imaged
+    requires { ⌜ UsableStore (now store) × (sizes ≡ sizesOf (now store)) ⌝ }
+    ensures { λ r. ⌜ SaveAnswer (now (store .entry)) (now (output .entry)) (now (output .exit)) r ⌝ }
+{
+    let side = (1u32 << sizes.order) - 1;
+    let whole = Window {
+        x0: 0,
+        y0: 0,
+        x1: side,
+        y1: side,
+    };
+    let Counted::Seen { found, opened } = count(store, sizes, whole) else {
+        return Imaged::Unreadable;
+    };
+    let entries = wide(found) + wide(opened);
+    let needed = 10 + 5 * entries;
+    if output.len() < needed {
+        return Imaged::TooShort(needed);
+    }
+    put_header(output, sizes.order, sizes.k, found + opened, found);
+    let saving = Saving {
+        layout: layout_of(sizes),
+        entries,
+    };
+    let Saved::Next(_) = save_block(store, saving, 0, sizes.order, 0, output, 0) else {
+        return Imaged::Unreadable;
+    };
+    Imaged::Whole(needed)
+}

@@ -1,0 +1,6 @@
+pub mod BlockSizes
+pub mod PutLaws
+pub mod PlacedWords
+pub mod StepLaws
+pub mod RegroupEnds
+pub mod StepEnds

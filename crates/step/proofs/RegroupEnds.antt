@@ -1,0 +1,74 @@
+-- The two ends of `regroup`: a block is formed and the change is at rest, or the rest is handed up.
+use Prim.Native.Nat.{ℕ, suc, _+_, _-_, _*_, _≤_, _<_}
+use native.Mathlib.Omega.{arith}
+use mathlib.Core.Path.{_≡_, refl, ap, subst, sym, _∙_}
+use mathlib.Core.Logic.{_⊎_, inl, inr}
+use mathlib.Core.List.{List, [], _∷_}
+use lib.ListN.{length, getD, take, set}
+use lib.Seq.{take-set-le, take-take}
+use Rattle.pktree.specs.Elements.{size}
+use Rattle.pktree.proofs.Alignment.{blockCode}
+use Rattle.pktree.proofs.Absurd.{zero-is-not-one}
+use Rattle.store.specs.declared.sizes.Layout.{Layout}
+use Rattle.store.specs.Layout.{LayoutFits}
+use Rattle.store.specs.Slot.{OnlySlot}
+use Rattle.store.specs.Placed.{Placed, forestOf}
+use Rattle.store.proofs.SlotWrites.{take-less}
+use Rattle.descent.specs.Way.{Frame}
+use Rattle.rewrite.specs.declared.Forming.the-variants.{Formed, NoSlot}
+use Rattle.rewrite.specs.Rewrite.{HandedUpBlock, BlockFormed, FormMeets}
+use Rattle.change.proofs.RunLaw.{FormedAt}
+use Rattle.change.proofs.Pending.{Setting, Laid}
+use Rattle.change.proofs.Settled.{Settled}
+use Rattle.step.specs.declared.Stepped.the-variants.{Done, Up, Damaged}
+use Rattle.step.specs.Step.{Kept, SteppedRight}
+use Rattle.step.proofs.StepLaws.{up-with-block, formed-size, never-without-slot, at-rest-with-block}
+
+pub kept-same : (layout : Layout) (before after : List ℕ) → after ≡ before → Kept layout before after
+kept-same layout before after e = rw e (record { long = refl; head = refl; past = refl })
+
+-- one slot changed: words 0 to 5 and those past the formula stay
+pub kept-but-slot : (layout : Layout) (slot : ℕ) (before after : List ℕ) → slot < layout .slots → OnlySlot (layout .width) slot before after → Kept layout before after
+kept-but-slot layout slot before after below only =
+    record { long = only .long; head = take-less 6 8 before after (omega arith) (only .head); past = only .past (layout .slots) below }
+
+-- word 7 is behind them
+pub front-kept : (v : ℕ) (before after : List ℕ) → take 8 after ≡ set (take 8 before) 7 v → take 6 after ≡ take 6 before
+front-kept v before after e =
+    sym (take-take 6 8 after (omega arith)) ∙ ap (take 6) e ∙ take-set-le 6 (take 8 before) 7 v (omega arith) ∙ take-take 6 8 before (omega arith)
+
+module _ (σ : Setting) (layout : Layout) (before after : List ℕ) (way : List Frame) (slot outer code : ℕ) (es : Placed) (free : List ℕ) (j first n d : ℕ)
+    (layout-is : layout ≡ σ .layout) (d-is : d ≡ blockCode j (σ .x)) (h : Laid σ before way slot outer code es free) (g : FormedAt (σ .k) outer code (σ .x) j first n es) where
+  pub regrouped-up : (scratch scratch′ : List ℕ) (r : ℕ) → (way ≡ [] → ⊥) → slot < 1048576 → r < σ .k → HandedUpBlock layout slot j d first n before after scratch scratch′ r
+      → SteppedRight σ after scratch′ way slot (Up r)
+  regrouped-up scratch scratch′ r some small few u = go way refl h
+    where
+      u′ : HandedUpBlock (σ .layout) slot j (blockCode j (σ .x)) first n before after scratch scratch′ r
+      u′ = subst (λ (c : ℕ). HandedUpBlock (σ .layout) slot j c first n before after scratch scratch′ r) d-is
+          (subst (λ (l : Layout). HandedUpBlock l slot j d first n before after scratch scratch′ r) layout-is u)
+
+      go : (w : List Frame) → way ≡ w → Laid σ before w slot outer code es free → SteppedRight σ after scratch′ w slot (Up r)
+      go [] e l = absurd (some e)
+      go (f ∷ w) e l = up-with-block σ before f w slot outer code es free l after scratch scratch′ j first n r g small (omega (arith, u′ .rest-is, l .says .count-is)) u′
+
+  -- the block around has its elements, as the root or because k are left
+  enough-left : (way ≡ []) ⊎ (σ .k + n ≤ size (forestOf es) + 1) → (t : ℕ)
+      → (outer ≡ σ .m) ⊎ (σ .k ≤ size (forestOf (Rattle.step.proofs.StepLaws.formedAs σ before way slot outer code es free h j first n g t)))
+  enough-left (inl e) t = inl (root way e (h .around .frames-right))
+    where
+      root : (w : List Frame) → w ≡ [] → Rattle.change.proofs.Frames.FramesRight (σ .k) (σ .m) w outer code → outer ≡ σ .m
+      root [] e r = r .0
+      root (f ∷ w) e r = zero-is-not-one (cc)
+  enough-left (inr e) t = inr (omega (arith, formed-size σ before way slot outer code es free h j first n g t))
+
+  pub regrouped-done : LayoutFits layout before → (way ≡ []) ⊎ (σ .k + n ≤ size (forestOf es) + 1) → BlockFormed layout slot j d first n (getD before 7 0) before after → Settled σ after
+  regrouped-done fits enough u =
+      at-rest-with-block σ before way slot outer code es free h j first n g (getD before 7 0) after (subst (λ (l : Layout). LayoutFits l before) layout-is fits)
+      (enough-left enough (getD before 7 0))
+      (subst (λ (c : ℕ). BlockFormed (σ .layout) slot j c first n (getD before 7 0) before after) d-is
+      (subst (λ (l : Layout). BlockFormed l slot j d first n (getD before 7 0) before after) layout-is u))
+
+  pub never-without : (way ≡ []) ⊎ (σ .k + n ≤ size (forestOf es) + 1) → FormMeets layout slot j d first n before after NoSlot → ⊥
+  never-without enough u =
+      never-without-slot σ before way slot outer code es free h j first n g after (enough-left enough 0)
+      (subst (λ (l : Layout). FormMeets l slot j d first n before after NoSlot) layout-is u)

@@ -1,0 +1,211 @@
+-- How a step of a change ends: after the splice the elements lie in the slot, and they are right, or a run of them is to be a block.
+use Prim.Native.Nat.{ℕ, zero, suc, _+_, _-_, _*_, _≤_, _<_}
+use native.Mathlib.Omega.{arith}
+use mathlib.Core.Path.{_≡_, refl, ap, subst, sym, _∙_}
+use mathlib.Core.Logic.{_⊎_, inl, inr}
+use mathlib.Core.Bool.{Bool, true, false}
+use mathlib.Core.List.{List, [], _∷_}
+use lib.ListN.{length, getD, take, drop}
+use lib.Seq.{getD-take, getD-set-same, length-take-le}
+use Rattle.pktree.specs.Elements.{size}
+use Rattle.pktree.proofs.Arranged.{LocallyRight}
+use Rattle.store.specs.declared.sizes.Layout.{Layout}
+use Rattle.store.specs.Layout.{LayoutFits, SlotOffset, storeEnd}
+use Rattle.store.specs.Slot.{slotPart, levelWord, countWord}
+use Rattle.store.specs.Splice.{CanSplice}
+use Rattle.store.specs.FreeSlots.{Released}
+use Rattle.store.specs.Placed.{Placed, _⧻_, forestOf}
+use Rattle.store.proofs.SlotWrites.{lent-part}
+use Rattle.store.proofs.Usable.{slot-long}
+use Rattle.descent.specs.Way.{Frame}
+use Rattle.runs.specs.declared.Run.{Run}
+use Rattle.runs.specs.declared.Run.the-variants.{Formed, Nothing}
+use Rattle.runs.specs.Run.{Counted, RunFormed, RunMeets, AscendingCodes}
+use Rattle.runs.proofs.SlotCodes.{slot-ascends}
+use Rattle.rewrite.specs.Rewrite.{CanHandUp, HandedUpAll}
+use Rattle.change.proofs.Frames.{FramesRight, frames-level}
+use Rattle.change.proofs.Pending.{Setting, widthIn, Laid}
+use Rattle.change.proofs.RunLaw.{FormedAt, formed-by}
+use Rattle.step.specs.declared.Change.{Change}
+use Rattle.step.specs.declared.Placing.the-variants as placing
+use Rattle.step.specs.declared.Stepped.{Stepped}
+use Rattle.step.specs.declared.Stepped.the-variants.{Done, Up, Damaged}
+use Rattle.step.specs.Step.{Kept, CanPut, PutMeets, InSetting, SteppedRight, UpTo16, CanRegroup, RegroupMeets, StepMeets}
+use Rattle.step.proofs.PutLaws.{level-at}
+use Rattle.step.proofs.RegroupEnds.{kept-same, kept-but-slot, front-kept}
+use Rattle.step.proofs.StepLaws.{can-splice, laid-by-splice, right-as-it-is, done-as-it-is, up-with-all}
+
+-- what a release, and one change after another, keep
+kept-by-release : {layout : Layout} {slot : ℕ} {before after : List ℕ} → slot < layout .slots → Released (layout .width) slot before after → Kept layout before after
+kept-by-release {layout} {slot} {before} {after} below freed = record {
+  long = freed .long;
+  head = front-kept slot before after (freed .head);
+  past = freed .past (layout .slots) below;
+}
+
+kept-then : {layout : Layout} {before mid after : List ℕ} → Kept layout before mid → Kept layout mid after → Kept layout before after
+kept-then p q = record { long = q .long ∙ p .long; head = q .head ∙ p .head; past = q .past ∙ p .past }
+
+-- the elements were spliced
+module _ {layout : Layout} {slot place removed inserted count : ℕ} {before mid scratch : List ℕ} (can : CanPut layout before slot place removed inserted scratch)
+    (r : PutMeets layout slot place removed inserted scratch before mid (placing.Elements count)) where
+  fits-then : LayoutFits layout mid
+  fits-then = record { within = can .fits .within; lies = rw (r .2 .only .long) (can .fits .lies) }
+
+  -- the splice wrote their number
+  count-then : countWord (slotPart (layout .width) mid slot) ≡ count
+  count-then =
+      let part : List ℕ = slotPart (layout .width) before slot in
+      sym (getD-take 8 (slotPart (layout .width) mid slot) 2 0 (omega arith)) ∙ ap (λ (l : List ℕ). getD l 2 0) (r .2 .spliced .header)
+      ∙ getD-set-same (take 8 part) 2 _ 0 (omega (arith, length-take-le 8 part (omega (arith, r .1 .laid)))) ∙ sym (r .0)
+
+  room-then : 8 + 2 * count ≤ layout .width
+  room-then = omega (arith, r .0, r .1 .room, slot-long layout before slot (can .fits) (can .slot-below))
+
+  -- the part that the search is lent
+  pub can-search : (at : ℕ) → SlotOffset layout slot at → Counted (take (at + layout .width - at) (drop at mid)) count
+  can-search at o =
+      rw (lent-part (layout .width) slot at mid (o .is))
+      (record { laid = omega (arith, room-then, slot-long layout mid slot fits-then (can .slot-below)); few = omega (arith, room-then, can .fits .within .width-to) })
+
+  -- fewer than 16 have room in the scratch words
+  pub can-hand-up : count < 16 → CanHandUp layout mid slot 0 0 0 scratch
+  can-hand-up few =
+      record {
+        cut = record { fits = fits-then; slot-below = can .slot-below; level-to = omega arith; laid = rw count-then room-then; within = omega arith };
+        few = omega (arith, count-then);
+        room = can .room;
+      }
+
+-- and a run that was found in it can be made a block
+pub can-regroup : {change : Change} {slot place removed inserted count level x j first n : ℕ} {before mid scratch part : List ℕ}
+    → CanPut (change .layout) before slot place removed inserted scratch → PutMeets (change .layout) slot place removed inserted scratch before mid (placing.Elements count)
+    → level ≤ 16 → 2 ≤ change .k → change .k ≤ 16 → RunFormed part count level (change .k) x j first n → CanRegroup change mid slot j first n scratch
+can-regroup can put low k-from k-to run = record {
+  fits = fits-then can put;
+  slot-below = can .slot-below;
+  level-to = omega (arith, run .low);
+  laid = rw (count-then can put) (room-then can put);
+  within = rw (count-then can put) (run .within);
+  size-from = omega (arith, run .many);
+  k-to = k-to;
+  room = can .room;
+}
+
+-- what was found, by other names of the same
+found-in : {part part′ : List ℕ} {count count′ level level′ k k′ x x′ : ℕ} (r : Run) → part ≡ part′ → count ≡ count′ → level ≡ level′ → k ≡ k′ → x ≡ x′
+    → RunMeets part count level k x r → RunMeets part′ count′ level′ k′ x′ r
+found-in r p c l k x h = rw (p, c, l, k, x) at h
+
+-- the elements are laid, in a setting of the change
+module _ {change : Change} {root : Bool} {σ : Setting} {way : List Frame} {slot level code : ℕ} {words : List ℕ} {es : Placed} {free : List ℕ}
+    (i : InSetting σ change root way) (h : Laid σ words way slot level code es free) where
+  same-part : slotPart (change .layout .width) words slot ≡ slotPart (widthIn σ) words slot
+  same-part = ap (λ (l : Layout). slotPart (l .width) words slot) (i .layout-is)
+
+  level-says : levelWord (slotPart (change .layout .width) words slot) ≡ level
+  level-says = ap levelWord same-part ∙ h .says .level-is
+
+  count-says : countWord (slotPart (change .layout .width) words slot) ≡ size (forestOf es)
+  count-says = ap countWord same-part ∙ h .says .count-is
+
+  level-up-to : levelWord (slotPart (change .layout .width) words slot) ≤ 16
+  level-up-to = omega (arith, level-says, frames-level (σ .k) (σ .m) way level code (h .around .frames-right), σ .m-to)
+
+  ascends : AscendingCodes (slotPart (widthIn σ) words slot) (size (forestOf es))
+  ascends = slot-ascends (slotPart (widthIn σ) words slot) level code es (σ .k) _ _ _ (h .says) (h .around .disturbed .arranged)
+
+-- so the run is the block to be formed
+run-formed : (σ : Setting) (words : List ℕ) (way : List Frame) (s level code : ℕ) (es : Placed) (free : List ℕ) (j first n : ℕ) → Laid σ words way s level code es free
+    → AscendingCodes (slotPart (widthIn σ) words s) (size (forestOf es)) → RunFormed (slotPart (widthIn σ) words s) (size (forestOf es)) level (σ .k) (σ .x) j first n
+    → FormedAt (σ .k) level code (σ .x) j first n es
+run-formed σ words way s zero code es free j first n h up r = absurd (omega (arith, h .around .level-from))
+run-formed σ words way s (suc l) code es free j first n h up r =
+    formed-by (σ .k) l code (σ .x) (slotPart (widthIn σ) words s) es (σ .k-from) (h .says) (h .around .disturbed) j first n (r .low) (r .within) (r .many) (r .right up)
+
+-- the block is the root, or has k elements
+enough : (σ : Setting) (change : Change) (root : Bool) (way : List Frame) (level code n : ℕ) → InSetting σ change root way → FramesRight (σ .k) (σ .m) way level code
+    → (root ≡ true) ⊎ (change .k ≤ n) → (level ≡ σ .m) ⊎ (σ .k ≤ n)
+enough σ change root way level code n i f (inl e) = inl (subst (λ (w : List Frame). FramesRight (σ .k) (σ .m) w level code) (i .root-is .0 e) f .0)
+enough σ change root way level code n i f (inr h) = inr (omega (arith, i .k-is))
+
+-- below the root an underfull block hands all up
+up-below-root : (σ : Setting) (words : List ℕ) (way : List Frame) (s level code : ℕ) (es : Placed) (free after scratch scratch′ : List ℕ) (n : ℕ) → (way ≡ [] → ⊥)
+    → Laid σ words way s level code es free → LocallyRight (σ .k) level code (forestOf es) → size (forestOf es) < σ .k
+    → HandedUpAll (σ .layout) s words after scratch scratch′ n → SteppedRight σ after scratch′ way s (Up n)
+up-below-root σ words [] s level code es free after scratch scratch′ n ne h right few u = ne refl
+up-below-root σ words (f ∷ way) s level code es free after scratch scratch′ n ne h right few u =
+    up-with-all σ words f way s level code es free h after scratch scratch′ n right few u
+
+-- on a register's words the splice is never refused
+pub never-refused : {change : Change} {root : Bool} {slot place removed inserted : ℕ} {before after scratch : List ℕ} → CanPut (change .layout) before slot place removed inserted scratch
+    → PutMeets (change .layout) slot place removed inserted scratch before after placing.Damaged
+    → StepMeets change root slot place removed inserted before after scratch scratch Damaged
+never-refused {change} {root} {slot} {place} {removed} {inserted} {before} {after} {scratch} can r =
+    record {
+      kept = record { long = ap length (r .0); head = ap (take 6) (r .0); past = ap (drop (storeEnd (change .layout))) (r .0) };
+      bounds = tt;
+      scratch-long = refl;
+      right = λ σ way level code a old new b free i p o n w h.
+          r .1 (subst (λ (l : Layout). CanSplice (slotPart (l .width) before slot) scratch place removed inserted) (sym (i .layout-is))
+          (can-splice σ before way slot level code a old new b free place removed inserted scratch h p o n
+          (subst (λ (l : Layout). LayoutFits l before) (i .layout-is) (can .fits)) (can .room) (can .inserted-to)));
+    }
+
+module _ {change : Change} {root : Bool} {slot place removed inserted count : ℕ} {before mid scratch : List ℕ}
+    (can : CanPut (change .layout) before slot place removed inserted scratch)
+    (put : PutMeets (change .layout) slot place removed inserted scratch before mid (placing.Elements count)) where
+  -- what follows from the elements laid is what the step comes to
+  stepped : {after scratch′ : List ℕ} {r : Stepped} → Kept (change .layout) mid after → UpTo16 r → length scratch′ ≡ length scratch
+      → ((σ : Setting) (way : List Frame) (level code : ℕ) (es : Placed) (free : List ℕ) → InSetting σ change root way → Laid σ mid way slot level code es free
+      → SteppedRight σ after scratch′ way slot r) → StepMeets change root slot place removed inserted before after scratch scratch′ r
+  stepped kept bounds long right = record {
+    kept = kept-then (kept-but-slot (change .layout) slot before mid (can .slot-below) (put .2 .only)) kept;
+    bounds = bounds;
+    scratch-long = long;
+    right = λ σ way level code a old new b free i p o n w h.
+        let done = subst (λ (l : Layout). PutMeets l slot place removed inserted scratch before mid (placing.Elements count)) (i .layout-is) put in
+        right σ way level code (a ⧻ (new ⧻ b)) free i
+        (laid-by-splice σ before way slot level code a old new b free place removed inserted scratch h p o n mid w (done .1) (done .2));
+  }
+
+  module _ {at : ℕ} (o : SlotOffset (change .layout) slot at) where
+    -- nor does a slot say a level above 16
+    pub never-too-high : 16 < getD mid at 0 → StepMeets change root slot place removed inserted before mid scratch scratch Damaged
+    never-too-high h = stepped (kept-same (change .layout) mid mid refl) tt refl (λ σ way level code es free i l. omega (arith, level-at (change .layout) mid slot at (fits-then can put) (can .slot-below) o, level-up-to i l))
+
+    -- what the search found, in each setting
+    found : {σ : Setting} {way : List Frame} {level code : ℕ} {es : Placed} {free : List ℕ} (r : Run) → InSetting σ change root way → Laid σ mid way slot level code es free
+        → RunMeets (take (at + change .layout .width - at) (drop at mid)) count (getD mid at 0) (change .k) (change .code) r
+        → RunMeets (slotPart (widthIn σ) mid slot) (size (forestOf es)) level (σ .k) (σ .x) r
+    found r i h =
+        found-in r (lent-part (change .layout .width) slot at mid (o .is) ∙ same-part i h) (sym (count-then can put) ∙ count-says i h) (level-at (change .layout) mid slot at (fits-then can put) (can .slot-below) o ∙ level-says i h) (i .k-is) (i .x-is)
+
+    module _ (none : RunMeets (take (at + change .layout .width - at) (drop at mid)) count (getD mid at 0) (change .k) (change .code) Nothing) where
+      right-then : {σ : Setting} {way : List Frame} {level code : ℕ} {es : Placed} {free : List ℕ} → InSetting σ change root way → Laid σ mid way slot level code es free
+          → LocallyRight (σ .k) level code (forestOf es)
+      right-then {σ} {way} {level} {code} {es} {free} i h = right-as-it-is σ mid way slot level code es free h (found Nothing i h none (ascends i h))
+
+      -- no run, and enough elements: the change is at rest
+      pub done-then : (root ≡ true) ⊎ (change .k ≤ count) → StepMeets change root slot place removed inserted before mid scratch scratch Done
+      done-then e = stepped (kept-same (change .layout) mid mid refl) tt refl
+          (λ σ way level code es free i h. done-as-it-is σ mid way slot level code es free h (right-then i h)
+          (enough σ change root way level code (size (forestOf es)) i (h .around .frames-right)
+          (subst (λ (n : ℕ). (root ≡ true) ⊎ (change .k ≤ n)) (sym (count-then can put) ∙ count-says i h) e)))
+
+      -- no run, and too few elements: they are pending in the block around
+      pub up-then : {after scratch′ : List ℕ} {n : ℕ} → root ≡ false → count < change .k → change .k ≤ 16 → HandedUpAll (change .layout) slot mid after scratch scratch′ n
+          → StepMeets change root slot place removed inserted before after scratch scratch′ (Up n)
+      up-then {after} {scratch′} {n} e few k-to u =
+          stepped (kept-by-release (can .slot-below) (u .freed)) (omega (arith, u .rest-is, count-then can put)) (u .long)
+          (λ σ way level code es free i h. up-below-root σ mid way slot level code es free after scratch scratch′ n (i .root-is .1 e) h (right-then i h)
+          (omega (arith, count-then can put, count-says i h, i .k-is)) (subst (λ (l : Layout). HandedUpAll l slot mid after scratch scratch′ n) (i .layout-is) u))
+
+    -- a run: regrouping goes on with it
+    pub formed-then : {after scratch′ : List ℕ} {j first n : ℕ} {r : Stepped}
+        → RunMeets (take (at + change .layout .width - at) (drop at mid)) count (getD mid at 0) (change .k) (change .code) (Formed j first n)
+        → RegroupMeets change root slot j first n mid after scratch scratch′ r → StepMeets change root slot place removed inserted before after scratch scratch′ r
+    formed-then {j = j} {first = first} {n = n} run u =
+        stepped (u .kept) (u .bounds) (u .scratch-long)
+        (λ σ way level code es free i h. u .right σ way level code es free i h
+        (run-formed σ mid way slot level code es free j first n h (ascends i h) (found (Formed j first n) i h run)))

@@ -1,0 +1,124 @@
+-- `update::step` meets its contract: what `put` leaves is laid, and what is then found in the slot ends the step as `StepEnds` says.
+use native.Mathlib.Omega.{arith}
+use mathlib.Core.Logic.{inl, inr}
+use borrow.Author.Needs.{needs}
+use Rattle.step.specs.declared.Placing.the-variants.{Elements}
+use Rattle.step.specs.Step.{PutMeets}
+use Rattle.step.proofs.StepEnds.{can-search, can-hand-up, can-regroup, never-refused, never-too-high, done-then, up-then, formed-then}
+use Rattle.step.proofs.step.Statement.{statement}
+use Rattle.step.proofs.step.Tie as tie
+
+-- the elements were put
+placed : (c : tie.After-count) → (let s = c .before .before .before .before .before .before .before .before .before .before in
+    let a = s .args in
+    PutMeets (a .change .layout) (a .slot) (a .place) (a .removed) (a .inserted) (a .scratch .now) (a .store .now) (c .before .before .before .before .put .last .0)
+    (Elements (c .count .given .0 .0)))
+placed c = rw (c .count .given .1) at (c .before .before .before .before .put .ensures)
+
+returns : tie.Need-returns
+returns c = never-refused (c .before .before .before .before .before .before .before .before .before .before .pre .0) (rw (c .enum-told .given .1) at (c .before .before .before .before .put .ensures))
+
+returns-2 : tie.Need-returns-2
+returns-2 c =
+    let at = c .before .before in
+    let p = at .before .before in
+    never-too-high (p .before .before .before .before .before .before .before .before .before .before .pre .0) (placed p) (at .offset .ensures) (c .if1 .taken)
+
+find-run-requires : tie.Need-find-run-requires
+find-run-requires c κs =
+    let at = c .before .before .before .before in
+    let p = at .before .before in
+    let s = p .before .before .before .before .before .before .before .before .before .before in
+    (can-search (s .pre .0) (placed p) (at .offset .result) (at .offset .ensures), (c .before .before .if1 .left, s .pre .1))
+
+returns-3 : tie.Need-returns-3
+returns-3 c =
+    let f = c .before .before .before in
+    let at = f .before .before .before .before .before in
+    let p = at .before .before in
+    let s = p .before .before .before .before .before .before .before .before .before .before in
+    done-then (s .pre .0) (placed p) (at .offset .ensures) (rw (c .before .enum-told2 .given .1) at (f .find-run .ensures)) (inl (c .if2 .taken))
+
+returns-4 : tie.Need-returns-4
+returns-4 c =
+    let e = c .before .before .before in
+    let f = e .before .before in
+    let at = f .before .before .before .before .before in
+    let p = at .before .before in
+    let s = p .before .before .before .before .before .before .before .before .before .before in
+    done-then (s .pre .0) (placed p) (at .offset .ensures) (rw (e .enum-told2 .given .1) at (f .find-run .ensures)) (inr (c .if3 .taken))
+
+hand-up-all-requires : tie.Need-hand-up-all-requires
+hand-up-all-requires c κs =
+    let p = c .before .before .before .before .before .before .before .before .before .before .before .before .before .before in
+    let s = p .before .before .before .before .before .before .before .before .before .before in
+    can-hand-up (s .pre .0) (placed p) (omega arith)
+
+regroup-requires : tie.Need-regroup-requires
+regroup-requires c κs =
+    let f = c .before .before .before .before .before in
+    let at = f .before .before .before .before .before in
+    let p = at .before .before in
+    let s = p .before .before .before .before .before .before .before .before .before .before in
+    can-regroup (s .pre .0) (placed p) (f .before .before .before .if1 .left) (s .pre .1 .0) (s .pre .1 .1) (rw (c .before .before .before .inner .given .1) at (f .find-run .ensures))
+
+returns-5 : tie.Need-returns-5
+returns-5 c =
+    let u = c .before .before .before .before in
+    let i = u .before .before .before in
+    let e = i .before .before .before in
+    let f = e .before .before in
+    let at = f .before .before .before .before .before in
+    let p = at .before .before in
+    let s = p .before .before .before .before .before .before .before .before .before .before in
+    up-then (s .pre .0) (placed p) (at .offset .ensures) (rw (e .enum-told2 .given .1) at (f .find-run .ensures)) (i .before .before .if2 .left) (i .if3 .left) (s .pre .1 .1)
+    (u .hand-up-all .ensures)
+
+returns-6 : tie.Need-returns-6
+returns-6 c =
+    let u = c .before .before .before .before in
+    let i = u .before .before .before .before in
+    let f = i .before .before in
+    let at = f .before .before .before .before .before in
+    let p = at .before .before in
+    let s = p .before .before .before .before .before .before .before .before .before .before in
+    formed-then (s .pre .0) (placed p) (at .offset .ensures) (rw (i .inner .given .1) at (f .find-run .ensures)) (u .regroup .ensures)
+
+pub step-spec : {M : Type 1} → statement M
+step-spec =
+    tie.close
+    (tie.spec
+    (λ c κs. search needs)
+    (λ c. search needs)
+    (λ c. search needs)
+    (λ c. search needs)
+    (λ c. search needs)
+    returns
+    (λ c κs. search needs)
+    (λ c. search needs)
+    (λ c. search needs)
+    (λ c. search needs)
+    (λ c. search needs)
+    returns-2
+    (λ c. search needs)
+    (λ c. search needs)
+    (λ c. search needs)
+    (λ c. search needs)
+    (λ c. search needs)
+    find-run-requires
+    (λ c. search needs)
+    (λ c. search needs)
+    (λ c. search needs)
+    returns-3
+    (λ c. search needs)
+    (λ c. search needs)
+    returns-4
+    hand-up-all-requires
+    (λ c. search needs)
+    regroup-requires
+    (λ c. search needs)
+    (λ c. search needs)
+    returns-5
+    (λ c. search needs)
+    (λ c. search needs)
+    returns-6)

@@ -1,0 +1,153 @@
+// One block of the path of a change: its elements change, a block is formed in it, or its elements go up.
+ghost use Prim.Native.Nat.{_≤_};
+ghost use mathlib.Core.Path.{_≡_};
+ghost use Rattle.pktree.proofs.Alignment.{blockCode};
+ghost use Rattle.step.specs.Step.{CanPut, PutMeets, CanRegroup, RegroupMeets, StepMeets};
+use rewrite::Forming;
+use rewrite::form_block;
+use rewrite::hand_up_all;
+use rewrite::hand_up_block;
+use rewrite::splice_slot;
+use runs::Run;
+use runs::find_run;
+use store::sizes::Layout;
+use store::slots::offset;
+use store::slots::wide;
+
+// Where the slots lie, k, and the code at which the set changes.
+pub struct Change {
+    pub layout: Layout,
+    pub k: usize,
+    pub code: u32,
+}
+
+pub enum Placing {
+    Elements(usize),
+    Damaged,
+}
+
+// In a slot, elements give way to those of the scratch words; answers how many there are then.
+pub fn put(
+    store: &mut [u32],
+    layout: Layout,
+    slot: usize,
+    place: usize,
+    removed: usize,
+    scratch: &[u32],
+    inserted: usize,
+) -> Placing
+    requires { ⌜ CanPut layout (now store) slot place removed inserted (now scratch) ⌝ }
+    ensures { λ r. ⌜ PutMeets layout slot place removed inserted (now (scratch .entry)) (now (store .entry)) (now (store .exit)) r ⌝ }
+{
+    let at = offset(layout, slot);
+    let room = (layout.width - 8) / 2;
+    let count = wide(store[at + 2]);
+    if room < count {
+        return Placing::Damaged;
+    }
+    if count < place + removed {
+        return Placing::Damaged;
+    }
+    let after = count - removed + inserted;
+    if room < after {
+        return Placing::Damaged;
+    }
+    splice_slot(store, layout, slot, place, removed, scratch, inserted);
+    Placing::Elements(after)
+}
+
+// The code of the block of this level that holds the code.
+pub fn block_code(code: u32, level: u32) -> u32
+    requires { ⌜ level ≤ 15 ⌝ }
+    ensures { λ r. ⌜ r ≡ blockCode level code ⌝ }
+{
+    let size = 1u32 << (2 * level);
+    code / size * size
+}
+
+pub enum Stepped {
+    Done,
+    Up(usize),
+    Damaged,
+}
+
+// A run becomes a block: in a free slot where the block around it stays, else in the slot of the underfull block, which hands the rest up.
+pub fn regroup(
+    store: &mut [u32],
+    change: Change,
+    root: bool,
+    slot: usize,
+    level: u32,
+    first: usize,
+    size: usize,
+    scratch: &mut [u32],
+) -> Stepped
+    requires { ⌜ CanRegroup change (now store) slot level first size (now scratch) ⌝ }
+    ensures { λ r. ⌜ RegroupMeets change root slot level first size (now (store .entry)) (now (store .exit)) (now (scratch .entry)) (now (scratch .exit)) r ⌝ }
+{
+    let layout = change.layout;
+    let code = block_code(change.code, level);
+    let at = offset(layout, slot);
+    let rest = wide(store[at + 2]) - size + 1;
+    if !root {
+        if rest < change.k {
+            return Stepped::Up(hand_up_block(
+                store,
+                layout,
+                slot,
+                level,
+                code,
+                first,
+                size,
+                scratch,
+            ));
+        }
+    }
+    match form_block(store, layout, slot, level, code, first, size) {
+        Forming::Formed => Stepped::Done,
+        Forming::NoSlot => Stepped::Damaged,
+    }
+}
+
+// One block of the path: its elements change, a block is formed in it where one must be, and an underfull block hands its elements up.
+pub fn step(
+    store: &mut [u32],
+    change: Change,
+    root: bool,
+    slot: usize,
+    place: usize,
+    removed: usize,
+    scratch: &mut [u32],
+    inserted: usize,
+) -> Stepped
+    requires { ⌜ CanPut (change .layout) (now store) slot place removed inserted (now scratch) × ((2 ≤ change .k) × (change .k ≤ 16)) ⌝ }
+    ensures { λ r. ⌜ StepMeets change root slot place removed inserted (now (store .entry)) (now (store .exit)) (now (scratch .entry)) (now (scratch .exit)) r ⌝ }
+{
+    let layout = change.layout;
+    let Placing::Elements(count) = put(store, layout, slot, place, removed, scratch, inserted)
+    else {
+        return Stepped::Damaged;
+    };
+    let at = offset(layout, slot);
+    let width = layout.width;
+    let level = store[at];
+    if 16 < level {
+        return Stepped::Damaged;
+    }
+    match find_run(&store[at..at + width], count, level, change.k, change.code) {
+        Run::Nothing => {
+            if root {
+                return Stepped::Done;
+            }
+            if change.k <= count {
+                return Stepped::Done;
+            }
+            Stepped::Up(hand_up_all(store, layout, slot, scratch))
+        }
+        Run::Formed {
+            level: inner,
+            first,
+            length,
+        } => regroup(store, change, root, slot, inner, first, length, scratch),
+    }
+}
