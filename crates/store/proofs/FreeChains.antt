@@ -67,7 +67,7 @@ module _ (width : ℕ) (words : List ℕ) (slots : ℕ) (few : slots ≤ noSlot)
       go (no ne) (inr (later m q d n)) = inr (later m q d (omega arith))
 
   -- the first of a chain does not come again
-  pub first-once : (s : ℕ) (free : List ℕ) → Every (λ t. t < slots) (s ∷ free) → FreeSlots width words (s ∷ free) → Every (λ t. t ≡ s → ⊥) free
+  pub first-once : {first : ℕ} (s : ℕ) (free : List ℕ) → Every (λ t. t < slots) (s ∷ free) → FreeChain width words first (s ∷ free) → Every (λ t. t ≡ s → ⊥) free
   first-once s free p c = go (find s (nextWord (slotPart width words s)) free (p .1) (c .2))
     where
       go : Every (λ t. t ≡ s → ⊥) free ⊎ Later s (length free) → Every (λ t. t ≡ s → ⊥) free

@@ -221,6 +221,10 @@ pub every-right : (P : ℕ → Type 0) (a b : List ℕ) → Every P (a ++ b) →
 every-right P [] b h = h
 every-right P (x ∷ a) b h = every-right P a b (h .1)
 
+pub every-join : (P : ℕ → Type 0) (a b : List ℕ) → Every P a → Every P b → Every P (a ++ b)
+every-join P [] b p q = q
+every-join P (x ∷ a) b p q = (p .0, every-join P a b (p .1) q)
+
 pub frame : (width : ℕ) (words words′ : List ℕ) (t : Placed) → Every (λ s. slotPart width words s ≡ slotPart width words′ s) (slotsOf t)
     → Stands width words t → Stands width words′ t
 frame width words words′ nothing e h = tt

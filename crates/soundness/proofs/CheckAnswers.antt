@@ -1,0 +1,123 @@
+-- What the walk, the chain and the numbers say together: a sound store exactly if all agree.
+use Prim.Native.Nat.{ℕ, suc, _+_, _-_, _^_, _≤_, _<_}
+use native.Mathlib.Omega.{arith}
+use mathlib.Core.Path.{_≡_, refl, ap, sym, _∙_}
+use mathlib.Core.Bool.{Bool, true, false}
+use mathlib.Core.List.{List, append-nil}
+use lib.Dec.{eqb}
+use lib.ListN.{length, getD}
+use borrow.Author.Tests.{eqb-true, eqb-false}
+use Rattle.pktree.specs.Panel.{Panel}
+use Rattle.pktree.specs.Tree.{pixels}
+use Rattle.pktree.proofs.Forests.{blockCount}
+use Rattle.pktree.proofs.Arranged.{LocallyRight}
+use Rattle.pktree.proofs.LocalTest.{localTest}
+use Rattle.pktree.proofs.LocalLaw.{tree-exactly-local}
+use Rattle.store.specs.Decides.{Decides}
+use Rattle.store.specs.Sizes.{panelOf, sizesOf, slotCount, slotWidth, UsableStore}
+use Rattle.store.specs.Layout.{layoutOf}
+use Rattle.store.specs.Placed.{Placed, nothing, blockThen, forestOf, slotsOf}
+use Rattle.store.specs.FreeSlots.{noSlot}
+use Rattle.store.specs.Sound.{Sound}
+use Rattle.store.proofs.Bounds.{slot-count-bounded}
+use Rattle.store.proofs.FreeChains.{one-chain}
+use Rattle.store.proofs.Standing.{depth, complete-slot, depth-below-level, every-right, every-join}
+use Rattle.soundness.specs.declared.walk.Seen.{Seen}
+use Rattle.soundness.specs.IsSound.{IsSound}
+use Rattle.soundness.specs.Chain.{ChainOf, ChainEnds}
+use Rattle.soundness.specs.Walk.{BlockWalked, NoneClaimed}
+use Rattle.soundness.proofs.OneReading.{one-reading}
+use Rattle.soundness.proofs.SlotTotals.{shared-length, shared-of-length}
+use Rattle.soundness.proofs.SlotsOnce.{slots-are-blocks}
+use Rattle.soundness.proofs.RootSlots.{root-slots-once}
+use Rattle.soundness.proofs.RootWalks.{rootClaim, noneSeen, rootLimits, tested-exactly, sound-root}
+
+module _ (words : List ℕ) where
+  -- the walk finds the root of a sound store
+  pub root-stands : NoneClaimed (rootLimits words) words (rootClaim (sizesOf words)) noneSeen → IsSound words → ⊥
+  root-stands none h = let r = sound-root words (h .placed) (h .sound) in none (r .es) (r .at) (r .room)
+
+  free-of : (placed : Placed) (sound : Sound words placed) → ChainOf (layoutOf (sizesOf words)) words (sound .free)
+  free-of placed sound = record { chain = sound .chain; inside = every-right _ (slotsOf placed) (sound .free) (sound .shared .inside) }
+
+  -- and its chain comes to an end
+  pub chain-stands : ((free : List ℕ) → ChainOf (layoutOf (sizesOf words)) words free → length free ≤ slotCount (getD words 2 0) (getD words 3 0) → ⊥)
+      → IsSound words → ⊥
+  chain-stands none h = none (h .sound .free) (free-of (h .placed) (h .sound)) (omega (arith, shared-length (h .sound .shared)))
+
+  -- what was walked and what was followed
+  module _ {seen : Seen} {count : ℕ} (usable : UsableStore words) (w : BlockWalked (rootLimits words) words (rootClaim (sizesOf words)) noneSeen seen)
+      (ends : ChainEnds (layoutOf (sizesOf words)) words count) where
+    abbrev found : Placed
+    found = blockThen 0 (getD words 1 0) 0 (w .found) nothing
+
+    blocks-seen : seen .blocks ≡ blockCount (forestOf found)
+    blocks-seen = omega (arith, ap (λ (s : Seen). s .blocks) (w .now-is))
+
+    pixels-seen : seen .pixels ≡ length (pixels (forestOf found))
+    pixels-seen = omega (arith, ap (λ (s : Seen). s .pixels) (w .now-is))
+
+    few-slots : slotCount (getD words 2 0) (getD words 3 0) ≤ noSlot
+    few-slots = omega (arith, slot-count-bounded (usable .valid))
+
+    -- on a sound store they are its tree and its chain
+    pub numbers-agree : IsSound words → (seen .blocks + count ≡ slotCount (getD words 2 0) (getD words 3 0)) × (getD words 6 0 ≡ seen .pixels)
+    numbers-agree h =
+        let r = sound-root words (h .placed) (h .sound) in
+        let e : r .es ≡ w .found = one-reading (slotWidth (getD words 2 0)) words 0 (getD words 1 0) 0 (getD words 1 0) 0 (r .es) (w .found)
+        (r .at .says) (r .at .elements .stands) (w .at .says) (w .at .elements .stands) in
+        let p : h .placed ≡ found = r .is ∙ ap (λ (t : Placed). blockThen 0 (getD words 1 0) 0 t nothing) e in
+        let f = free-of (h .placed) (h .sound) in
+        let l : h .sound .free ≡ ends .free = one-chain (slotWidth (getD words 2 0)) words (slotCount (getD words 2 0) (getD words 3 0)) few-slots (getD words 7 0)
+        (h .sound .free) (ends .free) (f .inside) (ends .is .inside) (f .chain) (ends .is .chain) in (
+          omega (
+            arith,
+            blocks-seen,
+            slots-are-blocks (h .placed),
+            ap (λ (t : Placed). blockCount (forestOf t)) p,
+            ap length l,
+            ends .many,
+            shared-length (h .sound .shared),
+          ),
+          h .sound .counted ∙ ap (λ (t : Placed). length (pixels (forestOf t))) p ∙ sym pixels-seen,
+        )
+
+    -- where they agree, the store is sound
+    pub sound-where-agree : seen .blocks + count ≡ slotCount (getD words 2 0) (getD words 3 0) → getD words 6 0 ≡ seen .pixels → IsSound words
+    sound-where-agree all counted =
+        let k : ℕ = getD words 2 0 in
+        let order : ℕ = getD words 1 0 in
+        let panel : Panel = panelOf (sizesOf words) in
+        let valid = usable .valid .panel in
+        let b = w .at in
+        let es : Placed = w .found in
+        let tested : localTest k (order - 1) 0 (forestOf es) ≡ true = rw (b .passes, b .elements .right) in
+        let right : LocallyRight k order 0 (forestOf es) = tested-exactly k order 0 (forestOf es) (valid .order-from) (omega (arith, valid .k-from)) .0 tested in
+        let deep : depth (forestOf es) < order = depth-below-level k order 0 (0 + 4 ^ order) (forestOf es) (valid .order-from) (right .arranged) in
+        let level : suc (order - 1) ≡ order = omega (arith, valid .order-from) in
+        let read = complete-slot (slotWidth k) words (order - 1) 0 order 0 es (b .says) (b .elements .stands) (omega arith) in
+        record {
+          placed = found;
+          sound = record {
+            usable = usable;
+            reads = rw level at read;
+            is-tree = tree-exactly-local panel (forestOf found) (valid .k-from) .1 (forestOf es, refl, right);
+            fits = omega (arith, pixels-seen, w .within .pixels-to);
+            free = ends .free;
+            chain = ends .is .chain;
+            shared = shared-of-length
+                (root-slots-once (slotWidth k) words k order 0 (0 + 4 ^ order) 0 (slotCount k (getD words 3 0)) (getD words 7 0) es (ends .free) (valid .order-from) few-slots
+                (b .says) (b .elements .stands) (right .arranged) (ends .is .inside) (ends .is .chain))
+                (every-join _ (slotsOf found) (ends .free) (omega arith, rw (append-nil (slotsOf es)) (b .elements .inside)) (ends .is .inside))
+                (omega (arith, blocks-seen, slots-are-blocks found, ends .many));
+            counted = counted ∙ pixels-seen;
+          };
+        }
+
+    -- so the last two comparisons decide
+    pub decided-by-counts : seen .blocks + count ≡ slotCount (getD words 2 0) (getD words 3 0) → Decides (eqb (getD words 6 0) (seen .pixels)) (IsSound words)
+    decided-by-counts all = go (eqb (getD words 6 0) (seen .pixels)) refl
+      where
+        go : (t : Bool) → eqb (getD words 6 0) (seen .pixels) ≡ t → Decides t (IsSound words)
+        go true e = sound-where-agree all (eqb-true (getD words 6 0) (seen .pixels) e)
+        go false e = λ h. eqb-false (getD words 6 0) (seen .pixels) e (numbers-agree h .1)

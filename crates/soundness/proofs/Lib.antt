@@ -1,0 +1,16 @@
+pub mod PassSteps
+pub mod ElementNames
+pub mod OneReading
+pub mod RightParts
+pub mod SeenParts
+pub mod BlockOpening
+pub mod WalkedTo
+pub mod WalkRefusals
+pub mod BlockWalks
+pub mod ElementWalks
+pub mod ChainFollowed
+pub mod SlotTotals
+pub mod SlotsOnce
+pub mod RootSlots
+pub mod RootWalks
+pub mod CheckAnswers

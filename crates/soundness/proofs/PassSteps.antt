@@ -1,0 +1,74 @@
+-- One element of a pass: what the code's tests of it say of the one-pass test.
+use Prim.Native.Nat.{ℕ, zero, suc, _+_, _*_, _/_, _%_, _^_, _≤_, _<_}
+use native.Mathlib.Omega.{arith}
+use native.Mathlib.Nat.{pow-suc, pow-le-pow-right}
+use native.Mathlib.Numerals.{add-one}
+use mathlib.Core.Path.{_≡_, refl, ap}
+use lib.Dec.{eqb}
+use borrow.Author.Tests.{lt-leb, le-leb, lt-ltb, le-ltb, eq-eqb, ne-eqb}
+use Rattle.pktree.specs.Entries.{entry}
+use Rattle.pktree.proofs.LocalTest.{tally}
+use Rattle.soundness.specs.declared.pass.Pass.{Pass}
+use Rattle.soundness.specs.declared.pass.Passing.the-variants.{On, Refused}
+use Rattle.soundness.specs.Pass.{PassMeets}
+
+-- two bits for each level
+two-bits : (i : ℕ) → 2 ^ (2 * i) ≡ 4 ^ i
+two-bits zero = refl
+two-bits (suc i) =
+    let e : 2 ^ (2 * suc i) ≡ 2 ^ suc (suc (2 * i)) = ap (λ (n : ℕ). 2 ^ n) (omega arith) in
+    omega (arith, e, pow-suc 2 (suc (2 * i)), pow-suc 2 (2 * i), pow-suc 4 i, two-bits i)
+
+-- the number of codes of a block, as the code makes it by a shift
+pub span-of-level : (level : ℕ) → level ≤ 16 → (1 * 2 ^ (2 * level) % 18446744073709551616 ≡ 4 ^ level) × (4 ^ level ≤ 4294967296)
+span-of-level level h =
+    let p : 4 ^ level ≤ 4 ^ 16 = pow-le-pow-right (omega arith) h in
+    omega (arith, two-bits level)
+
+pub met-same : {q r : ℕ} (n : ℕ) → q ≡ r → n + 1 ≡ tally (eqb q r) n
+met-same {q} {r} n e = rw (eq-eqb q r e, add-one)
+
+pub met-other : {q r : ℕ} (n : ℕ) → (q ≡ r → ⊥) → 1 ≡ tally (eqb q r) n
+met-other {q} {r} n ne = rw (ne-eqb q r ne)
+
+module _ {pass : Pass} {k quarters level code : ℕ} where
+  pub starts-too-low : code < pass .from → PassMeets k quarters pass (entry level code) Refused
+  starts-too-low low = record { bounds = tt; goes = λ to rest. rw (lt-leb (pass .from) code low) }
+
+  module _ (above : pass .from ≤ code) where
+    pub too-large : quarters < level → PassMeets k quarters pass (entry level code) Refused
+    too-large large = record { bounds = tt; goes = λ to rest. rw (le-leb (pass .from) code above, lt-leb level quarters large) }
+
+    module _ (small : level ≤ quarters) where
+      pub not-aligned : (code % 4 ^ level ≡ 0 → ⊥) → PassMeets k quarters pass (entry level code) Refused
+      not-aligned off =
+          record { bounds = tt; goes = λ to rest. rw (le-leb (pass .from) code above, le-leb level quarters small, ne-eqb (code % 4 ^ level) 0 off) }
+
+      module _ {met : ℕ} (aligned : code % 4 ^ level ≡ 0) (counts : met ≡ tally (eqb (code / 4 ^ quarters) (pass .quarter)) (pass .met)) where
+        pub quarter-full : k ≤ met → PassMeets k quarters pass (entry level code) Refused
+        quarter-full full =
+            record {
+              bounds = tt;
+              goes = λ to rest.
+                  rw (
+                    le-leb (pass .from) code above,
+                    le-leb level quarters small,
+                    eq-eqb (code % 4 ^ level) 0 aligned,
+                    ← counts,
+                    le-ltb met k full,
+                  );
+            }
+
+        pub goes-on : met < k → PassMeets k quarters pass (entry level code) (On (record { from = code + 4 ^ level; quarter = code / 4 ^ quarters; met = met }))
+        goes-on few =
+            record {
+              bounds = (few, small);
+              goes = λ to rest.
+                  rw (
+                    le-leb (pass .from) code above,
+                    le-leb level quarters small,
+                    eq-eqb (code % 4 ^ level) 0 aligned,
+                    ← counts,
+                    lt-ltb met k few,
+                  );
+            }

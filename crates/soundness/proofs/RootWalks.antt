@@ -1,0 +1,101 @@
+-- The root of a store as the walk is given it, and the root of a sound store as the walk finds it.
+use Prim.Native.Nat.{ℕ, suc, _-_, _≤_, _<_}
+use native.Mathlib.Omega.{arith}
+use mathlib.Core.Path.{_≡_, ap, subst₂, _∙_}
+use mathlib.Core.Bool.{true}
+use mathlib.Core.List.{List, append-nil}
+use lib.ListN.{length, getD}
+use Rattle.pktree.specs.Elements.{Forest}
+use Rattle.pktree.specs.Tree.{pixels}
+use Rattle.pktree.proofs.Arranged.{LocallyRight}
+use Rattle.pktree.proofs.LocalTest.{heads, slotTest, insideTest, localTest, local-test-exact, both}
+use Rattle.store.specs.declared.sizes.Layout.{Layout}
+use Rattle.store.specs.declared.sizes.Sizes.{Sizes}
+use Rattle.store.specs.Sizes.{sizesOf, slotCount, ValidSizes, UsableStore}
+use Rattle.store.specs.Layout.{layoutOf, LaidOut}
+use Rattle.store.specs.Placed.{Placed, nothing, blockThen, forestOf}
+use Rattle.store.specs.Sound.{Sound}
+use Rattle.store.proofs.SoundView.{sound-view}
+use Rattle.soundness.specs.declared.walk.Claim.{Claim}
+use Rattle.soundness.specs.declared.walk.Limits.{Limits}
+use Rattle.soundness.specs.declared.walk.Seen.{Seen}
+use Rattle.soundness.specs.Walk.{CanWalk, WithinLimits, seenWith, claimed, BlockAt}
+
+-- as the code makes them
+abbrev pub limitsOf : Layout → Sizes → Limits
+limitsOf layout sizes = record { layout = layout; k = sizes .k; most = sizes .most }
+
+abbrev pub rootClaim : Sizes → Claim
+rootClaim sizes = record { slot = 0; level = sizes .order; code = 0; least = 0 }
+
+abbrev pub noneSeen : Seen
+noneSeen = record { blocks = 0; pixels = 0 }
+
+abbrev pub rootLimits : List ℕ → Limits
+rootLimits words = limitsOf (layoutOf (sizesOf words)) (sizesOf words)
+
+pub sizes-valid : {words : List ℕ} {sizes : Sizes} → UsableStore words → sizes ≡ sizesOf words → ValidSizes sizes
+sizes-valid usable said = rw said (usable .valid)
+
+pub can-start : {words : List ℕ} {sizes : Sizes} {layout : Layout} → UsableStore words → sizes ≡ sizesOf words → LaidOut sizes layout
+    → CanWalk (limitsOf layout sizes) words (rootClaim sizes) noneSeen
+can-start usable said laid =
+    let valid = sizes-valid usable said in
+    record {
+      can = record {
+        fits = record { within = laid .within; lies = rw (laid .is, said) (usable .enough) };
+        k-from = omega (arith, valid .panel .k-from);
+        k-to = valid .panel .k-to;
+        most-to = valid .most-to;
+      };
+      slot-below = laid .within .slots-from;
+      level-from = valid .panel .order-from;
+      level-to = valid .panel .order-to;
+      within = record { blocks-to = omega arith; pixels-to = omega arith };
+    }
+
+-- what is learnt of the code's sizes and layout is learnt of the words' own
+pub of-words : {sizes : Sizes} {layout : Layout} (words : List ℕ) (P : Layout → Sizes → Type 0) → sizes ≡ sizesOf words → LaidOut sizes layout → P layout sizes
+    → P (layoutOf (sizesOf words)) (sizesOf words)
+of-words words P said laid = subst₂ P (laid .is ∙ ap layoutOf said) said
+
+pub slots-of-words : {sizes : Sizes} {layout : Layout} (words : List ℕ) → sizes ≡ sizesOf words → LaidOut sizes layout
+    → layout .slots ≡ slotCount (getD words 2 0) (getD words 3 0)
+slots-of-words words said laid = ap (λ (l : Layout). l .slots) (laid .is ∙ ap layoutOf said)
+
+-- the test of a block of a level above 0
+pub tested-exactly : (k level code : ℕ) (es : Forest) → 1 ≤ level → 0 < k
+    → ((localTest k (level - 1) code es ≡ true) → LocallyRight k level code es) × (LocallyRight k level code es → (localTest k (level - 1) code es ≡ true))
+tested-exactly k level code es low pos =
+    let e : suc (level - 1) ≡ level = omega arith in
+    let t = local-test-exact k (level - 1) code es pos in
+    (λ h. rw e at (t .0 h), λ h. t .1 (rw e h))
+
+-- the root of a sound store is as claimed, and there is room for it
+pub record SoundRoot (words : List ℕ) (placed : Placed) : Type 0 where
+  pub es : Placed
+  pub is : placed ≡ blockThen 0 (getD words 1 0) 0 es nothing
+  pub at : BlockAt (rootLimits words) words (rootClaim (sizesOf words)) es
+  pub room : WithinLimits (rootLimits words) (seenWith noneSeen (claimed (rootClaim (sizesOf words)) es))
+
+pub sound-root : (words : List ℕ) (placed : Placed) → Sound words placed → SoundRoot words placed
+sound-root words placed sound =
+    let (es, v) = sound-view words placed sound in
+    let valid = sound .usable .valid .panel in
+    let k : ℕ = getD words 2 0 in
+    let t = tested-exactly k (getD words 1 0) 0 (forestOf es) (valid .order-from) (omega (arith, valid .k-from)) .1 (v .right) in
+    let b = both (slotTest k (getD words 1 0 - 1) 0 (heads (forestOf es))) (insideTest k (forestOf es)) t in
+    record {
+      es = es;
+      is = v .is;
+      at = record {
+        says = v .says;
+        many = omega arith;
+        passes = b .0;
+        elements = record { stands = v .stands; right = b .1; inside = v .inside };
+      };
+      room = record {
+        blocks-to = omega (arith, v .few);
+        pixels-to = omega (arith, ap length (v .same-pixels), ap length (append-nil (pixels (forestOf es))), sound .fits);
+      };
+    }

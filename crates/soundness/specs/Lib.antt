@@ -1,0 +1,4 @@
+pub mod IsSound
+pub mod Chain
+pub mod Pass
+pub mod Walk

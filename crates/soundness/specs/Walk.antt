@@ -1,0 +1,117 @@
+-- What the walk over a block, and over all that is inside it, finds.
+use Prim.Native.Nat.{ℕ, _+_, _-_, _≤_, _<_}
+use mathlib.Core.Path.{_≡_}
+use mathlib.Core.Bool.{true}
+use mathlib.Core.List.{List}
+use lib.ListN.{length}
+use Rattle.pktree.specs.Lists.{Every}
+use Rattle.pktree.specs.Elements.{Forest, empty, block, size}
+use Rattle.pktree.specs.Tree.{pixels}
+use Rattle.pktree.proofs.Forests.{blockCount}
+use Rattle.pktree.proofs.LocalTest.{heads, slotTest, insideTest}
+use Rattle.store.specs.declared.elements.Element.{Element}
+use Rattle.store.specs.declared.elements.Element.the-variants.{Pixel, Block}
+use Rattle.store.specs.Layout.{LayoutFits}
+use Rattle.store.specs.Slot.{slotPart}
+use Rattle.store.specs.Placed.{Placed, nothing, pixelThen, blockThen, forestOf, slotsOf}
+use Rattle.store.proofs.Standing.{SlotSays, Stands}
+use Rattle.store.specs.declared.opening.Opening.{Opening}
+use Rattle.store.specs.declared.opening.Opening.the-variants.{Elements, Damaged}
+use Rattle.store.specs.Opening.{HeaderSays}
+use Rattle.soundness.specs.declared.walk.Claim.{Claim}
+use Rattle.soundness.specs.declared.walk.Limits.{Limits}
+use Rattle.soundness.specs.declared.walk.Seen.{Seen}
+use Rattle.soundness.specs.declared.walk.Walked.{Walked}
+use Rattle.soundness.specs.declared.walk.Walked.the-variants.{Whole, Broken}
+use Rattle.soundness.specs.Pass.{entryOf}
+
+-- what every part of the walk may rely on, on any words
+pub record CanLook (limits : Limits) (words : List ℕ) : Type 0 where
+  pub fits : LayoutFits (limits .layout) words
+  pub k-from : 1 ≤ limits .k
+  pub k-to : limits .k ≤ 16
+  pub most-to : limits .most ≤ 65535
+
+pub record WithinLimits (limits : Limits) (seen : Seen) : Type 0 where
+  pub blocks-to : seen .blocks ≤ limits .layout .slots
+  pub pixels-to : seen .pixels ≤ limits .most
+
+-- the numbers with those of these elements
+abbrev pub seenWith : Seen → Forest → Seen
+seenWith seen f = record { blocks = seen .blocks + blockCount f; pixels = seen .pixels + length (pixels f) }
+
+-- elements that stand in the words, in slots that there are, with every block among them right by the local law
+pub record StandsRight (limits : Limits) (words : List ℕ) (t : Placed) : Type 0 where
+  pub stands : Stands (limits .layout .width) words t
+  pub right : insideTest (limits .k) (forestOf t) ≡ true
+  pub inside : Every (λ s. s < limits .layout .slots) (slotsOf t)
+
+-- a block in its slot, right by the local law, with at least so many elements
+pub record BlockAt (limits : Limits) (words : List ℕ) (claim : Claim) (es : Placed) : Type 0 where
+  pub says : SlotSays (slotPart (limits .layout .width) words (claim .slot)) (claim .level) (claim .code) es
+  pub many : claim .least ≤ size (forestOf es)
+  pub passes : slotTest (limits .k) (claim .level - 1) (claim .code) (heads (forestOf es)) ≡ true
+  pub elements : StandsRight limits words es
+
+pub record CanWalk (limits : Limits) (words : List ℕ) (claim : Claim) (seen : Seen) : Type 0 where
+  pub can : CanLook limits words
+  pub slot-below : claim .slot < limits .layout .slots
+  pub level-from : 1 ≤ claim .level
+  pub level-to : claim .level ≤ 16
+  pub within : WithinLimits limits seen
+
+-- the block with these elements
+abbrev pub claimed : Claim → Placed → Forest
+claimed claim es = block (claim .level) (claim .code) (forestOf es) empty
+
+-- no block is as claimed for whose blocks and pixels there is room
+abbrev pub NoneClaimed : Limits → List ℕ → Claim → Seen → Type 0
+NoneClaimed limits words claim seen = (es : Placed) → BlockAt limits words claim es → WithinLimits limits (seenWith seen (claimed claim es)) → ⊥
+
+pub record BlockOpened (limits : Limits) (words : List ℕ) (claim : Claim) (seen : Seen) (count : ℕ) : Type 0 where
+  pub header : HeaderSays (slotPart (limits .layout .width) words (claim .slot)) (claim .level) (claim .code) count
+  pub many : claim .least ≤ count
+  pub room : seen .blocks < limits .layout .slots
+
+abbrev pub OpenMeets : Limits → List ℕ → Claim → Seen → Opening → Type 0
+OpenMeets limits words claim seen (Elements count) = BlockOpened limits words claim seen count
+OpenMeets limits words claim seen Damaged = NoneClaimed limits words claim seen
+
+pub record BlockWalked (limits : Limits) (words : List ℕ) (claim : Claim) (seen now : Seen) : Type 0 where
+  pub found : Placed
+  pub at : BlockAt limits words claim found
+  pub now-is : now ≡ seenWith seen (claimed claim found)
+  pub within : WithinLimits limits now
+
+-- the numbers with those of the block that is as claimed, or there is none
+abbrev pub WalkMeets : Limits → List ℕ → Claim → Seen → Walked → Type 0
+WalkMeets limits words claim seen (Whole now) = BlockWalked limits words claim seen now
+WalkMeets limits words claim seen Broken = NoneClaimed limits words claim seen
+
+-- the numbers with one pixel more, or N are there already
+abbrev pub PixelMeets : Limits → Seen → Walked → Type 0
+PixelMeets limits seen (Whole now) = (now ≡ record { blocks = seen .blocks; pixels = seen .pixels + 1 }) × WithinLimits limits now
+PixelMeets limits seen Broken = limits .most ≤ seen .pixels
+
+-- the words of an element name this one
+abbrev pub Names : Element → Placed → Type 0
+Names (Pixel c) t = t ≡ pixelThen c nothing
+Names (Block s i c) t = (es : Placed) × (t ≡ blockThen s i c es nothing)
+
+pub record CanWalkElement (limits : Limits) (words : List ℕ) (element : Element) (level : ℕ) (seen : Seen) : Type 0 where
+  pub can : CanLook limits words
+  pub level-to : level ≤ 16
+  pub below : entryOf element .level < level
+  pub within : WithinLimits limits seen
+
+pub record ElementWalked (limits : Limits) (words : List ℕ) (element : Element) (seen now : Seen) : Type 0 where
+  pub found : Placed
+  pub names : Names element found
+  pub at : StandsRight limits words found
+  pub now-is : now ≡ seenWith seen (forestOf found)
+  pub within : WithinLimits limits now
+
+abbrev pub WalkElementMeets : Limits → List ℕ → Element → Seen → Walked → Type 0
+WalkElementMeets limits words element seen (Whole now) = ElementWalked limits words element seen now
+WalkElementMeets limits words element seen Broken =
+    (t : Placed) → Names element t → StandsRight limits words t → WithinLimits limits (seenWith seen (forestOf t)) → ⊥

@@ -1,0 +1,52 @@
+// Whether a store is sound: the core of 01's check. It only reads, looks at no more blocks than there are slots, and keeps no scratch memory.
+ghost use mathlib.Core.Path.{_≡_};
+ghost use Rattle.store.specs.Decides.{Decides};
+ghost use Rattle.store.specs.Sizes.{UsableStore, sizesOf};
+ghost use Rattle.soundness.specs.IsSound.{IsSound};
+use crate::chain::Chain;
+use crate::chain::count_free;
+use crate::walk::Claim;
+use crate::walk::Limits;
+use crate::walk::Seen;
+use crate::walk::Walked;
+use crate::walk::walk_block;
+use store::sizes::Sizes;
+use store::sizes::layout_of;
+use store::slots::wide;
+
+mod chain;
+mod pass;
+mod walk;
+
+// 01's check, where refusal 3 does not apply: is the store sound?
+pub fn is_sound(store: &[u32], sizes: Sizes) -> bool
+    requires { ⌜ UsableStore (now store) × (sizes ≡ sizesOf (now store)) ⌝ }
+    ensures { λ r. ⌜ Decides r (IsSound (now (store .entry))) ⌝ }
+{
+    let layout = layout_of(sizes);
+    let limits = Limits {
+        layout,
+        k: sizes.k,
+        most: sizes.most,
+    };
+    let root = Claim {
+        slot: 0,
+        level: sizes.order,
+        code: 0,
+        least: 0,
+    };
+    let none = Seen {
+        blocks: 0,
+        pixels: 0,
+    };
+    let Walked::Whole(seen) = walk_block(store, limits, root, none) else {
+        return false;
+    };
+    let Chain::Ends(free) = count_free(store, layout) else {
+        return false;
+    };
+    if wide(seen.blocks) + free != layout.slots {
+        return false;
+    }
+    store[6] == seen.pixels
+}

@@ -1,0 +1,142 @@
+ghost use Prim.Native.Nat.{_≤_};
+ghost use Rattle.soundness.specs.Walk.{CanWalk, OpenMeets, WalkMeets, CanWalkElement, WalkElementMeets, WithinLimits, PixelMeets};
+use crate::pass::Passing;
+use crate::pass::block_end;
+use crate::pass::first_pass;
+use crate::pass::pass_element;
+use store::elements::Element;
+use store::elements::element_at;
+use store::opening::Opening;
+use store::opening::open_part;
+use store::sizes::Layout;
+use store::slots::slot_part;
+use store::slots::wide;
+
+// What a walk is given: where the slots lie, k, and the most pixels (01's N).
+pub struct Limits {
+    pub layout: Layout,
+    pub k: u32,
+    pub most: u32,
+}
+
+// The numbers of blocks and of pixels seen so far.
+pub struct Seen {
+    pub blocks: u32,
+    pub pixels: u32,
+}
+
+pub enum Walked {
+    Whole(Seen),
+    Broken,
+}
+
+// A block as it is to be: in this slot, of this level and code, with at least so many elements.
+pub struct Claim {
+    pub slot: usize,
+    pub level: u32,
+    pub code: u32,
+    pub least: u32,
+}
+
+// The number of elements of the block, if one more block may be looked at and this one says of itself what is claimed.
+pub fn open_block(store: &[u32], limits: Limits, claim: Claim, seen: Seen) -> Opening
+    requires { ⌜ CanWalk limits (now store) claim seen ⌝ }
+    ensures { λ r. ⌜ OpenMeets limits (now (store .entry)) claim seen r ⌝ }
+{
+    let layout = limits.layout;
+    if layout.slots <= wide(seen.blocks) {
+        return Opening::Damaged;
+    }
+    let part = slot_part(store, layout, claim.slot);
+    let Opening::Elements(count) = open_part(part, claim.level, claim.code) else {
+        return Opening::Damaged;
+    };
+    if count < wide(claim.least) {
+        return Opening::Damaged;
+    }
+    Opening::Elements(count)
+}
+
+// The block that is claimed, with all that is inside it.
+pub fn walk_block(store: &[u32], limits: Limits, claim: Claim, seen: Seen) -> Walked
+    requires { ⌜ CanWalk limits (now store) claim seen ⌝ }
+    ensures { λ r. ⌜ WalkMeets limits (now (store .entry)) claim seen r ⌝ }
+{
+    let Opening::Elements(count) = open_block(store, limits, claim, seen) else {
+        return Walked::Broken;
+    };
+    let part = slot_part(store, limits.layout, claim.slot);
+    let quarters = claim.level - 1;
+    let mut pass = first_pass(quarters, claim.code);
+    let mut seen_now = Seen {
+        blocks: seen.blocks + 1,
+        pixels: seen.pixels,
+    };
+    let mut i = 0;
+    while i < count {
+        let element = element_at(part, i);
+        let Passing::On(next) = pass_element(pass, limits.k, quarters, element) else {
+            return Walked::Broken;
+        };
+        let Walked::Whole(more) = walk_element(store, limits, element, claim.level, seen_now) else {
+            return Walked::Broken;
+        };
+        pass = next;
+        seen_now = more;
+        i += 1;
+    }
+    if block_end(claim.level, claim.code) < pass.from {
+        return Walked::Broken;
+    }
+    Walked::Whole(seen_now)
+}
+
+// One pixel more, if it may be.
+pub fn see_pixel(limits: Limits, seen: Seen) -> Walked
+    requires { ⌜ (limits .most ≤ 65535) × WithinLimits limits seen ⌝ }
+    ensures { λ r. ⌜ PixelMeets limits seen r ⌝ }
+{
+    if limits.most <= seen.pixels {
+        return Walked::Broken;
+    }
+    Walked::Whole(Seen {
+        blocks: seen.blocks,
+        pixels: seen.pixels + 1,
+    })
+}
+
+// One element of a block of this level: a pixel is counted, a block is walked.
+pub fn walk_element(
+    store: &[u32],
+    limits: Limits,
+    element: Element,
+    level: u32,
+    seen: Seen,
+) -> Walked
+    requires { ⌜ CanWalkElement limits (now store) element level seen ⌝ }
+    ensures { λ r. ⌜ WalkElementMeets limits (now (store .entry)) element seen r ⌝ }
+{
+    let layout = limits.layout;
+    match element {
+        Element::Pixel(_) => see_pixel(limits, seen),
+        Element::Block {
+            slot,
+            level: inner,
+            code,
+        } => {
+            if inner < 1 {
+                return Walked::Broken;
+            }
+            if layout.slots <= wide(slot) {
+                return Walked::Broken;
+            }
+            let claim = Claim {
+                slot: wide(slot),
+                level: inner,
+                code,
+                least: limits.k,
+            };
+            walk_block(store, limits, claim, seen)
+        }
+    }
+}
