@@ -1,0 +1,14 @@
+pub mod Comparisons
+pub mod BlockSize
+pub mod FourBytes
+pub mod EntryParts
+pub mod ImageOfSet
+pub mod EntriesFrom
+pub mod FirstEntry
+pub mod BlockRead
+pub mod QuarterRead
+pub mod Quarters
+pub mod QuartersRead
+pub mod PixelNumber
+pub mod ImageBytes
+pub mod RootRead

@@ -1,2 +1,4 @@
 pub mod Parts
 pub mod Judged
+pub mod PixelCount
+pub mod Reading

@@ -1,28 +1,34 @@
-use Prim.Native.Nat.{ℕ, _+_, _*_, _≤_}
+-- `image::parts::is_well_formed` meets its contract: the two tests decide its two parts. Assumes nothing.
+use Prim.Native.Nat.{_+_, _*_}
 use native.Mathlib.Omega.{arith}
-use mathlib.Core.Path.{_≡_, refl}
-use mathlib.Core.Bool.{Bool, true, false}
-use mathlib.Core.List.{List}
-use lib.Dec.{eqb}
 use lib.ListN.{length}
-use borrow.Author.Tests.{eqb-true, eqb-false}
-use Rattle.store.specs.Decides.{Decides}
-use Rattle.image.specs.Parts.{entryNumber}
-use Rattle.image.specs.Judged.{WellFormed}
 use borrow.Author.Needs.{needs}
+use Rattle.image.proofs.Comparisons.{eqb-decides}
 use Rattle.image.proofs.parts.is_well_formed.Statement.{statement}
 use Rattle.image.proofs.parts.is_well_formed.Tie as tie
 
-length-decides : (bytes : List ℕ) (e : ℕ) → e ≡ entryNumber bytes → 10 ≤ length bytes → Decides (eqb (length bytes) (10 + 5 * e)) (WellFormed bytes)
-length-decides bytes e is h = go (eqb (length bytes) (10 + 5 * e)) refl
-  where
-    go : (t : Bool) → eqb (length bytes) (10 + 5 * e) ≡ t → Decides t (WellFormed bytes)
-    go true p = record { header = h; arrays = rw (← is) (eqb-true (length bytes) (10 + 5 * e) p) }
-    go false p = λ w. eqb-false (length bytes) (10 + 5 * e) p (rw is (w .arrays))
+returns : tie.Need-returns
+returns c = search needs
+
+four-at-requires : tie.Need-four-at-requires
+four-at-requires c κs = search needs
+
+cast-result : tie.Need-cast-result
+cast-result c = search needs
+
+mul-result : tie.Need-mul-result
+mul-result c = search needs
+
+add-result : tie.Need-add-result
+add-result c = search needs
 
 returns-2 : tie.Need-returns-2
-returns-2 c = length-decides (c .before .before .before .args .image .now) (c .four-at .result) (c .four-at .ensures) (omega (arith, c .before .if1 .left))
+returns-2 c =
+    let e = c .four-at .ensures in
+    eqb-decides (length (c .before .before .before .args .image .now)) (10 + 5 * c .four-at .result) _
+    (λ is. record { header = omega (arith, c .before .if1 .left); arrays = omega (arith, is) })
+    (λ other formed. other (omega (arith, formed .arrays)))
 
 pub is-well-formed-spec : {M : Type 1} → statement M
 is-well-formed-spec =
-    tie.close (tie.spec (λ c. search needs) (λ c κs. search needs) (λ c. search needs) (λ c. search needs) (λ c. search needs) returns-2)
+    tie.close (tie.spec returns four-at-requires cast-result mul-result add-result returns-2)

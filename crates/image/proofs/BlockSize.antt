@@ -1,0 +1,26 @@
+-- The number of codes of a block, as the code makes it by a shift.
+use Prim.Native.Nat.{ℕ, zero, suc, _+_, _-_, _*_, _%_, _^_, _≤_}
+use native.Mathlib.Omega.{arith}
+use native.Mathlib.Nat.{pow-suc, pow-le-pow-right}
+use mathlib.Core.Path.{_≡_, refl, ap}
+
+-- two bits for each level
+four-pow : (i : ℕ) → 2 ^ (2 * i) ≡ 4 ^ i
+four-pow zero = refl
+four-pow (suc i) =
+    let e : 2 ^ (2 * suc i) ≡ 2 ^ suc (suc (2 * i)) = ap (λ (n : ℕ). 2 ^ n) (omega arith) in
+    omega (arith, e, pow-suc 2 (suc (2 * i)), pow-suc 2 (2 * i), pow-suc 4 i, four-pow i)
+
+pub shifted-size : (level : ℕ) → level ≤ 16 → 1 * 2 ^ (2 * level) % 18446744073709551616 ≡ 4 ^ level
+shifted-size level h =
+    let p : 4 ^ level ≤ 4 ^ 16 = pow-le-pow-right (omega arith) h in
+    omega (arith, four-pow level)
+
+-- a block has four times the codes of its quarter
+pub size-of-quarters : (level : ℕ) → 1 ≤ level → 4 ^ level ≡ 4 * 4 ^ (level - 1)
+size-of-quarters zero h = absurd (omega arith)
+size-of-quarters (suc level) h = let e : suc level - 1 ≡ level = omega arith in rw e (omega arith)
+
+-- no panel has more than 2 ^ 32 pixels
+pub panel-size : (order : ℕ) → order ≤ 16 → 0 + 4 ^ order ≤ 4294967296
+panel-size order h = let p : 4 ^ order ≤ 4 ^ 16 = pow-le-pow-right (omega arith) h in omega arith

@@ -1,0 +1,134 @@
+-- The elements of a block, read quarter by quarter.
+use Prim.Native.Nat.{ℕ, zero, suc, _+_, _-_, _*_, _^_, _≤_, _<_}
+use native.Mathlib.Omega.{arith}
+use mathlib.Core.Path.{_≡_, refl, ap, ap₂, subst}
+use mathlib.Core.Bool.{Bool}
+use mathlib.Core.List.{List, _++_, append-assoc}
+use lib.ListN.{length, length-append}
+use Rattle.pktree.specs.Panel.{Aligned}
+use Rattle.pktree.specs.Elements.{Forest, empty, _⧺_, size, gather}
+use Rattle.pktree.specs.Entries.{Entry, entries}
+use Rattle.pktree.proofs.Forests.{size-join}
+use Rattle.pktree.proofs.Alignment.{aligned-next, aligned-down}
+use Rattle.pktree.proofs.Counting.{sparse-of-small}
+use Rattle.pktree.proofs.LocalLaw.{Row, row-join, gather-is-local}
+use Rattle.image.specs.declared.reader.ElementsRead.the-variants.{Elements, Wrong}
+use Rattle.image.specs.Reading.{entriesFrom, quarterOf, From, ElementsMeet, QuarterMeets}
+use Rattle.image.proofs.EntriesFrom.{entries-past}
+use Rattle.image.proofs.FirstEntry.{entries-join}
+use Rattle.image.proofs.BlockRead.{local-read}
+use Rattle.image.proofs.Quarters.{quarters, gather-is-quarters, given-row, from-quarters}
+
+-- of a block that stands at `at`: the last n quarters, from `place` on, stand at `next`, and `count` elements before them
+pub record LeftOf (codes levels : List ℕ) (k level code at count next place n : ℕ) (marked : ℕ → Bool) (rest : List Entry) : Type 0 where
+  pub entries-left : entriesFrom codes levels next ≡ entries (quarters marked k level n place) ++ rest
+  pub size-left : count + size (quarters marked k level n place) ≡ size (gather marked k (suc level) code)
+  pub index-left : next + length (entries (quarters marked k level n place)) ≡ at + length (entries (gather marked k (suc level) code))
+
+-- all quarters but the last n are read, of the block of the level above and this code
+pub record QuartersRead (codes levels : List ℕ) (k level code at count next place n : ℕ) : Type 0 where
+  pub read : Forest
+  pub row : Row k level code place read
+  pub entries-are : entriesFrom codes levels at ≡ entries read ++ entriesFrom codes levels next
+  pub size-is : size read ≡ count
+  pub aligned : Aligned level place
+  pub ends : place + n * 4 ^ level ≡ code + 4 ^ suc level
+  pub count-to : count + 15 * n ≤ 60
+  pub next-to : next ≤ length levels
+  pub complete : (marked : ℕ → Bool) (rest : List Entry) → entriesFrom codes levels at ≡ entries (gather marked k (suc level) code) ++ rest
+      → From (code + 4 ^ suc level) rest → LeftOf codes levels k level code at count next place n marked rest
+
+module _ {codes levels : List ℕ} {k level code at : ℕ} (h : 2 ≤ k) where
+  pub none-read : Aligned (suc level) code → at ≤ length levels → QuartersRead codes levels k level code at 0 at code 4
+  none-read aligned to =
+      record {
+        read = empty;
+        row = record { arranged = omega arith; sparse = sparse-of-small k level empty (omega arith) };
+        entries-are = refl;
+        size-is = refl;
+        aligned = aligned-down level code aligned;
+        ends = omega arith;
+        count-to = omega arith;
+        next-to = to;
+        complete = λ marked rest e past.
+            let q = gather-is-quarters marked k level code in
+            record { entries-left = rw (← q) e; size-left = rw (← q) (omega arith); index-left = rw (← q) };
+      }
+
+  -- what is left, seen as the next quarter and those after it
+  next-there : {count next place : ℕ} (n : ℕ) → QuartersRead codes levels k level code at count next place (suc n)
+      → (marked : ℕ → Bool) (rest : List Entry) → LeftOf codes levels k level code at count next place (suc n) marked rest → From (code + 4 ^ suc level) rest
+      → (entriesFrom codes levels next ≡ entries (quarterOf k level place marked) ++ (entries (quarters marked k level n (place + 4 ^ level)) ++ rest))
+      × From (place + 4 ^ level) (entries (quarters marked k level n (place + 4 ^ level)) ++ rest)
+  unfolding quarters
+  next-there {count} {next} {place} n s marked rest left past =
+      let one : Forest = quarterOf k level place marked in
+      let others : Forest = quarters marked k level n (place + 4 ^ level) in (
+        rw (entries-join one others, append-assoc (entries one) (entries others) rest) at (left .entries-left),
+        from-quarters marked k level n (place + 4 ^ level) rest h (aligned-next level place (s .aligned))
+            (subst (λ (to : ℕ). From to rest) (omega (arith, s .ends)) past),
+      )
+
+  -- the next quarter lies in the block
+  pub quarter-within : {count next place : ℕ} (n : ℕ) → 0 < n → QuartersRead codes levels k level code at count next place n → place + 4 ^ level ≤ code + 4 ^ suc level
+  quarter-within zero some s = absurd (omega arith)
+  quarter-within (suc n) some s = omega (arith, s .ends)
+
+  pub quarter-wrong : {count next place : ℕ} (n : ℕ) → 0 < n → QuartersRead codes levels k level code at count next place n
+      → QuarterMeets codes levels k level place next Wrong → ElementsMeet codes levels k (suc level) code at Wrong
+  quarter-wrong zero some s one = absurd (omega arith)
+  quarter-wrong (suc n) some s one =
+      record {
+        sound = tt;
+        complete = λ marked rest e past.
+            let there = next-there n s marked rest (s .complete marked rest e past) past in
+            let w = one .complete marked _ (there .0) (there .1) in absurd (let z : _≡_ {A = ℕ} 0 1 = cc in omega arith);
+      }
+
+  one-read : {count next place more after : ℕ} (n : ℕ) → QuartersRead codes levels k level code at count next place (suc n)
+      → QuarterMeets codes levels k level place next (Elements more after) → QuartersRead codes levels k level code at (count + more) after (place + 4 ^ level) n
+  unfolding quarters
+  one-read {count} {next} {place} {more} {after} n s one =
+      let given : Forest = quarterOf k level place (one .sound .marked) in
+      record {
+        read = s .read ⧺ given;
+        row = row-join k level code place (place + 4 ^ level) (s .aligned) (s .row)
+            (given-row k level place _ h (s .aligned) (gather-is-local (one .sound .marked) k level place h (s .aligned)));
+        entries-are = rw (entries-join (s .read) given, append-assoc (entries (s .read)) (entries given) (entriesFrom codes levels after), ← one .sound .entries-are) (s .entries-are);
+        size-is = rw (size-join (s .read) given, s .size-is, one .sound .size-is);
+        aligned = aligned-next level place (s .aligned);
+        ends = omega (arith, s .ends);
+        count-to = omega (arith, s .count-to, one .sound .count-to);
+        next-to = one .sound .next-to;
+        complete = λ marked rest e past.
+            let left = s .complete marked rest e past in
+            let there = next-there n s marked rest left past in
+            let its : Forest = quarterOf k level place marked in
+            let others : Forest = quarters marked k level n (place + 4 ^ level) in
+            let w : Elements more after ≡ Elements (size its) (next + length (entries its)) = one .complete marked (entries others ++ rest) (there .0) (there .1) in
+            let m : more ≡ size its = cc in
+            let a : after ≡ next + length (entries its) = cc in
+            record {
+              entries-left = rw a (entries-past codes levels (entries its) (entries others ++ rest) next (there .0));
+              size-left = omega (arith, left .size-left, size-join its others);
+              index-left = omega (arith, left .index-left, ap length (entries-join its others), length-append (entries its) (entries others));
+            };
+      }
+
+  pub quarter-read : {count next place more after : ℕ} (n : ℕ) → 0 < n → QuartersRead codes levels k level code at count next place n
+      → QuarterMeets codes levels k level place next (Elements more after) → QuartersRead codes levels k level code at (count + more) after (place + 4 ^ level) (n - 1)
+  quarter-read zero some s one = absurd (omega arith)
+  quarter-read (suc n) some s one = let e : suc n - 1 ≡ n = omega arith in rw e (one-read n s one)
+
+  pub all-read : {count next place : ℕ} → Aligned (suc level) code → QuartersRead codes levels k level code at count next place 0
+      → ElementsMeet codes levels k (suc level) code at (Elements count next)
+  unfolding quarters
+  all-read {count} {next} {place} aligned s =
+      let end : place ≡ code + 4 ^ suc level = omega (arith, s .ends) in
+      let row : Row k level code (code + 4 ^ suc level) (s .read) = subst (λ (to : ℕ). Row k level code to (s .read)) end (s .row) in
+      record {
+        sound = local-read (s .read) aligned (record { arranged = row .arranged; sparse = row .sparse })
+            (s .entries-are) (s .size-is) (omega (arith, s .count-to)) (s .next-to);
+        complete = λ marked rest e past.
+            let left = s .complete marked rest e past in ap₂ Elements (omega (arith, left .size-left)) (omega (arith, left .index-left));
+      }

@@ -1,0 +1,20 @@
+-- `image::reader::is_entry` meets its contract: each test decides one part of what the entry is. Assumes nothing.
+use native.Mathlib.Omega.{arith}
+use Rattle.image.proofs.Comparisons.{eqb-decides}
+use borrow.Author.Needs.{needs}
+use Rattle.image.proofs.reader.is_entry.Statement.{statement}
+use Rattle.image.proofs.reader.is_entry.Tie as tie
+
+returns-3 : tie.Need-returns-3
+returns-3 c =
+    let p = c .before .before .before .before .before .before .before .args in
+    eqb-decides (c .wide .result) (p .code) _
+    (λ e. record {
+      below = omega (arith, c .before .before .before .before .if1 .left);
+      level-is = omega (arith, c .before .before .before .byte-at .ensures, c .before .before .if2 .left);
+      code-is = omega (arith, c .wide .ensures, c .before .code-at .ensures);
+    })
+    (λ e is. e (omega (arith, c .wide .ensures, c .before .code-at .ensures, is .code-is)))
+
+pub is-entry-spec : {M : Type 1} → statement M
+is-entry-spec = tie.close (tie.spec (λ c. search needs) (λ c κs. search needs) (λ c. search needs) (λ c κs. search needs) (λ c κs. search needs) returns-3)
