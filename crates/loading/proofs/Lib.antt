@@ -1,0 +1,5 @@
+pub mod NextPixels
+pub mod Filling
+pub mod ImagePixels
+pub mod LoadEnds
+pub mod Accepted
