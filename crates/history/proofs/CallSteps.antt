@@ -8,13 +8,16 @@ use Rattle.register.specs.declared.Asking.{Asking}
 use Rattle.register.specs.declared.Counting.{Counting}
 use Rattle.register.specs.declared.Listing.{Listing}
 use Rattle.register.specs.declared.Saving.{Saving}
+use Rattle.register.specs.declared.Checking.{Checking}
 use Rattle.register.specs.Mark.{MarkMeets}
 use Rattle.register.specs.Clear.{ClearMeets}
 use Rattle.register.specs.Ask.{AskMeets}
 use Rattle.register.specs.Count.{CountMeets}
 use Rattle.register.specs.List.{ListMeets}
 use Rattle.register.specs.Save.{SaveMeets}
-use Rattle.history.specs.Survivors.{Call, mark, clear, ask, count, list, save}
+use Rattle.register.specs.Load.{LoadMeets}
+use Rattle.register.specs.Check.{CheckMeets}
+use Rattle.history.specs.Survivors.{Call, mark, clear, ask, count, list, save, load, check}
 use Rattle.history.specs.Run as steps
 use Rattle.history.specs.Run.{Step, SaveRun, Run, done, then}
 
@@ -42,6 +45,12 @@ module _ (words : List ℕ) (x0 y0 x1 y1 : ℕ) where
 pub save-step : (words output written : List ℕ) (r : Saving) → SaveMeets words output written r → Step (save output) words words
 save-step words output written r m =
     steps.Step.by-save words output r written (steps.SaveRun.by-save ([], ([], tt)) (lent words) (lent output) refl refl m)
+
+pub load-step : (before after bytes : List ℕ) (r : Outcome) → LoadMeets before after bytes r → Step (load bytes) before after
+load-step before after bytes r m = steps.by-load ([], ([], tt)) (lent before) (lent bytes) r after m
+
+pub check-step : (words : List ℕ) (r : Checking) → CheckMeets words r → Step check words words
+check-step words r m = steps.by-check ([], tt) (lent words) r m
 
 pub run-then : {calls : List Call} {call : Call} {before between after : List ℕ} → Run calls before between → Step call between after
     → Run (calls ++ (call ∷ [])) before after

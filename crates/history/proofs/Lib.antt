@@ -1,3 +1,4 @@
+pub mod ImageTests
 pub mod Steps
 pub mod Runs
 pub mod TwoLists

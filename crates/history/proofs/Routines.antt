@@ -34,6 +34,14 @@ use Rattle.register.proofs.save.Reads as save-reads
 use Rattle.register.proofs.save.Kinds as save-kinds
 use Rattle.register.proofs.save.Symbol as save-symbol
 use Rattle.register.proofs.save.Met as save-theorem
+use Rattle.register.proofs.load.Reads as load-reads
+use Rattle.register.proofs.load.Kinds as load-kinds
+use Rattle.register.proofs.load.Symbol as load-symbol
+use Rattle.register.proofs.load.Met as load-theorem
+use Rattle.register.proofs.check.Reads as check-reads
+use Rattle.register.proofs.check.Kinds as check-kinds
+use Rattle.register.proofs.check.Symbol as check-symbol
+use Rattle.register.proofs.check.Met as check-theorem
 
 pub make-gives : (w : World) (γ : Env) (name : Name) → γ name ≡ make-symbol.routine
     → Known (w .𝓤) (w .H) (w .𝓖 .A) (givenOf (w .𝓤) (w .H) (w .𝓜) (w .𝓖)) (Over (w .𝓤) (w .H) (w .𝓜) (w .𝓖) (w .𝓡) γ) 1
@@ -69,3 +77,13 @@ pub save-gives : (w : World) (γ : Env) (name : Name) → γ name ≡ save-symbo
     → Known (w .𝓤) (w .H) (w .𝓖 .A) (givenOf (w .𝓤) (w .H) (w .𝓜) (w .𝓖)) (Over (w .𝓤) (w .H) (w .𝓜) (w .𝓖) (w .𝓡) γ) 2
     save-kinds.ps save-kinds.r save-reads.Asked save-reads.Learnt name
 save-gives w γ name e = save-reads.known w γ name save-symbol.routine e (save-theorem.met (w .𝓤) (w .H) (w .𝓜) (w .𝓖) (w .𝓡))
+
+pub load-gives : (w : World) (γ : Env) (name : Name) → γ name ≡ load-symbol.routine
+    → Known (w .𝓤) (w .H) (w .𝓖 .A) (givenOf (w .𝓤) (w .H) (w .𝓜) (w .𝓖)) (Over (w .𝓤) (w .H) (w .𝓜) (w .𝓖) (w .𝓡) γ) 2
+    load-kinds.ps load-kinds.r load-reads.Asked load-reads.Learnt name
+load-gives w γ name e = load-reads.known w γ name load-symbol.routine e (load-theorem.met (w .𝓤) (w .H) (w .𝓜) (w .𝓖) (w .𝓡))
+
+pub check-gives : (w : World) (γ : Env) (name : Name) → γ name ≡ check-symbol.routine
+    → Known (w .𝓤) (w .H) (w .𝓖 .A) (givenOf (w .𝓤) (w .H) (w .𝓜) (w .𝓖)) (Over (w .𝓤) (w .H) (w .𝓜) (w .𝓖) (w .𝓡) γ) 1
+    check-kinds.ps check-kinds.r check-reads.Asked check-reads.Learnt name
+check-gives w γ name e = check-reads.known w γ name check-symbol.routine e (check-theorem.met (w .𝓤) (w .H) (w .𝓜) (w .𝓖) (w .𝓡))

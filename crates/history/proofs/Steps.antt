@@ -19,8 +19,11 @@ use Rattle.register.specs.Answer.{Answer, accepted, refused, answer}
 use Rattle.register.specs.Change.{WordsLeft}
 use Rattle.register.specs.Mark.{MarkMeets}
 use Rattle.register.specs.Clear.{ClearMeets}
-use Rattle.history.specs.Survivors.{Call, mark, clear, ask, count, list, save, onPanel, isAdded, isRemoved, next}
-use Rattle.history.specs.Run.{Step, by-mark, by-clear, by-ask, by-count, by-list, by-save}
+use Rattle.register.specs.Load.{LoadMeets}
+use Rattle.image.specs.Parts.{pixelsOf}
+use Rattle.history.specs.Survivors.{Call, mark, clear, ask, count, list, save, load, check, onPanel, isAdded, isRemoved, isReplaced, next}
+use Rattle.history.specs.Run.{Step, by-mark, by-clear, by-ask, by-count, by-list, by-save, by-load, by-check}
+use Rattle.history.proofs.ImageTests.{test-says, some-passes}
 
 -- the store holds this set, and is of these sizes
 pub record InStep (sizes : Sizes) (set words : List ℕ) : Type 0 where
@@ -81,6 +84,18 @@ module _ (before after : List ℕ) (x y : ℕ) (r : Outcome) (set : List ℕ) (h
           refused-leaves 7 (m .unmarked set (h .holds) (on-panel (sizesOf before) x y p) e) (λ z. omega (arith, z)) (λ z. omega (arith, z)) (m .left) h
       go true p true e = let d = m .cleared set (h .holds) (on-panel (sizesOf before) x y p) e in record { holds = d .1; sized = d .2 }
 
+load-next : (before after bytes : List ℕ) (r : Outcome) (set : List ℕ) → InStep (sizesOf before) set before → LoadMeets before after bytes r
+    → InStep (sizesOf before) (next (sizesOf before) set (load bytes)) after
+load-next before after bytes r set h m = go (isReplaced (sizesOf before) bytes) refl
+  where
+    go : (p : Bool) → isReplaced (sizesOf before) bytes ≡ p → InStep (sizesOf before) (cond p (pixelsOf bytes) set) after
+    go true p =
+        let d = m .loaded (pixelsOf bytes) (h .holds .sound .usable) (test-says (panelOf (sizesOf before)) (getD before 3 0) bytes (pixelsOf bytes) p) in
+        record { holds = d .1; sized = d .2 }
+    go false p =
+        let valid = h .holds .sound .usable .valid in
+        same-words (m .unchanged (λ e. both (some-passes (panelOf (sizesOf before)) (getD before 3 0) bytes (valid .panel) (valid .most-to) (m .accepted .0 e .1)) p)) h
+
 -- of the sizes that the store says
 abbrev at-own-sizes : {sizes : Sizes} {set words : List ℕ} → InStep sizes set words → InStep (sizesOf words) set words
 at-own-sizes h = record { holds = h .holds; sized = refl }
@@ -97,3 +112,5 @@ step-keeps sizes set (by-ask κs s x y r m) h = h
 step-keeps sizes set (by-count κs s x0 y0 x1 y1 r m) h = h
 step-keeps sizes set (by-list κs s o x0 y0 x1 y1 r written m) h = h
 step-keeps sizes set (by-save words output r written m) h = h
+step-keeps sizes set (by-load κs s i r after m) h = to-sizes (load (now i)) h (load-next (now s) after (now i) r set (at-own-sizes h) m)
+step-keeps sizes set (by-check κs s r m) h = h

@@ -1,3 +1,4 @@
+pub mod ImageTest
 pub mod Survivors
 pub mod Run
 pub mod Claim

@@ -11,6 +11,7 @@ use Rattle.register.specs.declared.Asking.{Asking}
 use Rattle.register.specs.declared.Counting.{Counting}
 use Rattle.register.specs.declared.Listing.{Listing}
 use Rattle.register.specs.declared.Saving.{Saving}
+use Rattle.register.specs.declared.Checking.{Checking}
 use Rattle.register.specs.Answer.{answer}
 use Rattle.register.proofs.make.Reads as make-reads
 use Rattle.register.proofs.mark.Reads as mark-reads
@@ -19,7 +20,9 @@ use Rattle.register.proofs.ask.Reads as ask-reads
 use Rattle.register.proofs.count.Reads as count-reads
 use Rattle.register.proofs.list.Reads as list-reads
 use Rattle.register.proofs.save.Reads as save-reads
-use Rattle.history.specs.Survivors.{Call, mark, clear, ask, count, list, save}
+use Rattle.register.proofs.load.Reads as load-reads
+use Rattle.register.proofs.check.Reads as check-reads
+use Rattle.history.specs.Survivors.{Call, mark, clear, ask, count, list, save, load, check}
 
 -- a save from these words into this output
 pub data SaveRun (words output : List ℕ) (r : Saving) (written : List ℕ) : Type 0 where
@@ -40,6 +43,9 @@ pub data Step : Call → List ℕ → List ℕ → Type 0 where
       → list-reads.Learnt κs (s, (x0, (y0, (x1, (y1, (o, tt)))))) r (s, (x0, (y0, (x1, (y1, (at-last o written, tt))))))
       → Step (list x0 y0 x1 y1 (now o)) (now s) (now s)
   by-save : (words output : List ℕ) (r : Saving) (written : List ℕ) → SaveRun words output r written → Step (save output) words words
+  by-load : (κs : Lfts 2) (s i : RefT (List ℕ)) (r : Outcome) (after : List ℕ)
+      → load-reads.Learnt κs (s, (i, tt)) r (at-last s after, (i, tt)) → Step (load (now i)) (now s) after
+  by-check : (κs : Lfts 1) (s : RefT (List ℕ)) (r : Checking) → check-reads.Learnt κs (s, tt) r (s, tt) → Step check (now s) (now s)
 
 -- an accepted make with these numbers
 pub data Fresh (sizes : Sizes) : List ℕ → Type 0 where

@@ -8,8 +8,11 @@ use lib.ListN.{length}
 use Rattle.morton.specs.Code.{codeOf}
 use Rattle.pktree.specs.PixelSet.{member, added, removed}
 use Rattle.store.specs.declared.sizes.Sizes.{Sizes}
+use Rattle.store.specs.Sizes.{panelOf}
+use Rattle.image.specs.Parts.{pixelsOf}
+use Rattle.history.specs.ImageTest.{isImageOf}
 
--- a call with its arguments and, where it has one, its output
+-- a call with its arguments, image bytes or output
 pub data Call : Type 0 where
   mark : ℕ → ℕ → Call
   clear : ℕ → ℕ → Call
@@ -17,6 +20,8 @@ pub data Call : Type 0 where
   count : ℕ → ℕ → ℕ → ℕ → Call
   list : ℕ → ℕ → ℕ → ℕ → List ℕ → Call
   save : List ℕ → Call
+  load : List ℕ → Call
+  check : Call
 
 -- the pixel is on the panel
 abbrev pub onPanel : Sizes → ℕ → ℕ → Bool
@@ -30,6 +35,11 @@ isAdded sizes set x y = onPanel sizes x y && (not (member set (codeOf x y)) && l
 abbrev pub isRemoved : Sizes → List ℕ → ℕ → ℕ → Bool
 isRemoved sizes set x y = onPanel sizes x y && member set (codeOf x y)
 
+-- 01: load replaces the set by the image's when its bytes are the image, with this m and k, of some set of at most N pixels on the panel; the
+-- one set that they can be the image of is that of their entries of level 0
+abbrev pub isReplaced : Sizes → List ℕ → Bool
+isReplaced sizes bytes = isImageOf (panelOf sizes) (sizes .most) bytes (pixelsOf bytes)
+
 -- what a call makes of the set; all else leaves it
 abbrev pub next : Sizes → List ℕ → Call → List ℕ
 next sizes set (mark x y) = cond (isAdded sizes set x y) (added (codeOf x y) set) set
@@ -38,6 +48,8 @@ next sizes set (ask x y) = set
 next sizes set (count x0 y0 x1 y1) = set
 next sizes set (list x0 y0 x1 y1 output) = set
 next sizes set (save output) = set
+next sizes set (load bytes) = cond (isReplaced sizes bytes) (pixelsOf bytes) set
+next sizes set check = set
 
 abbrev pub surviving : Sizes → List ℕ → List Call → List ℕ
 surviving sizes set [] = set

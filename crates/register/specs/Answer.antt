@@ -11,6 +11,8 @@ use Rattle.register.specs.declared.Listing.{Listing}
 use Rattle.register.specs.declared.Listing.the-variants as listing
 use Rattle.register.specs.declared.Saving.{Saving}
 use Rattle.register.specs.declared.Saving.the-variants as saving
+use Rattle.register.specs.declared.Checking.{Checking}
+use Rattle.register.specs.declared.Checking.the-variants as checking
 
 pub record Answer : Type 0 where
   pub refusal : ℕ
@@ -53,3 +55,8 @@ abbrev pub saveAnswer : Saving → Answer
 saveAnswer (saving.Saved length) = accepted length 0
 saveAnswer (saving.Short needed) = short needed
 saveAnswer (saving.Refused number) = refused number
+
+abbrev pub checkAnswer : Checking → Answer
+checkAnswer checking.Sound = accepted 1 0
+checkAnswer checking.Unsound = accepted 0 0
+checkAnswer (checking.Refused number) = refused number

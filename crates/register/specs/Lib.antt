@@ -8,3 +8,5 @@ pub mod Save
 pub mod Change
 pub mod Mark
 pub mod Clear
+pub mod Load
+pub mod Check

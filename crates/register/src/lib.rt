@@ -6,7 +6,10 @@ ghost use Rattle.register.specs.Ask.{AskMeets};
 ghost use Rattle.register.specs.Count.{CountMeets};
 ghost use Rattle.register.specs.List.{ListMeets};
 ghost use Rattle.register.specs.Save.{SaveMeets};
+ghost use Rattle.register.specs.Load.{LoadMeets};
+ghost use Rattle.register.specs.Check.{CheckMeets};
 use listing::Listed;
+use loading::load::Loaded;
 use query::ask::Asked;
 use query::count::Counted;
 use query::window::Window;
@@ -15,6 +18,7 @@ use refusals::WindowJudged;
 use refusals::judge_pixel;
 use refusals::judge_window;
 use saving::Imaged;
+use soundness::is_sound;
 use store::reset::reset;
 use store::sizes::Sizes;
 use store::sizes::SizesRead;
@@ -26,7 +30,7 @@ use store::sizes::write_sizes;
 use update::marks::Clearing;
 use update::marks::Marking;
 
-// What make, mark and clear answer: done, or 01's number of the refusal.
+// What make, mark, clear and load answer: done, or 01's number of the refusal.
 pub enum Outcome {
     Done,
     Refused(u32),
@@ -160,5 +164,40 @@ pub fn save(store: &[u32], output: &mut [u8]) -> Saving
         Imaged::Whole(length) => Saving::Saved(length),
         Imaged::TooShort(needed) => Saving::Short(needed),
         Imaged::Unreadable => Saving::Refused(13),
+    }
+}
+
+// 01: the register of the image's set, of the same sizes. The image is judged whole before a word is written.
+pub fn load(store: &mut [u32], image: &[u8]) -> Outcome
+    ensures { λ r. ⌜ LoadMeets (now (store .entry)) (now (store .exit)) (now (image .entry)) r ⌝ }
+{
+    let SizesRead::Usable(sizes) = read_sizes(store) else {
+        return Outcome::Refused(3);
+    };
+    match loading::load::load(store, sizes, image) {
+        Loaded::Done => Outcome::Done,
+        Loaded::Malformed => Outcome::Refused(10),
+        Loaded::Unfit => Outcome::Refused(11),
+        Loaded::NoImage => Outcome::Refused(12),
+    }
+}
+
+pub enum Checking {
+    Sound,
+    Unsound,
+    Refused(u32),
+}
+
+// 01: yes exactly when sound.
+pub fn check(store: &[u32]) -> Checking
+    ensures { λ r. ⌜ CheckMeets (now (store .entry)) r ⌝ }
+{
+    let SizesRead::Usable(sizes) = read_sizes(store) else {
+        return Checking::Refused(3);
+    };
+    if is_sound(store, sizes) {
+        Checking::Sound
+    } else {
+        Checking::Unsound
     }
 }
