@@ -1,23 +1,25 @@
--- A list of calls, written as words: six for each call, its number and its arguments.
+-- A list of calls, written as words: six for each call, its number and its arguments. Images stand beside it, as one row of bytes.
 use Prim.Native.Nat.{ℕ, zero, suc, _+_, _*_, _/_, _%_}
 use mathlib.Core.Bool.{cond}
 use mathlib.Core.List.{List, [], _∷_, _++_}
 use lib.Dec.{eqb}
-use lib.ListN.{length, getD, take, replicate}
+use lib.ListN.{length, getD, take, drop, replicate}
 use Rattle.history.specs.declared.Encoded.{Encoded}
-use Rattle.history.specs.Survivors.{Call, mark, clear, ask, count, list, save}
+use Rattle.history.specs.Survivors.{Call, mark, clear, ask, count, list, save, load, check}
 
 -- the outputs that list and save get: so many zeros
 abbrev pub zeros : ℕ → ℕ → List ℕ
 zeros number size = take (number % (size + 1)) (replicate size 0)
 
-abbrev pub callOf : Encoded → Call
-callOf call =
+abbrev pub callOf : List ℕ → Encoded → Call
+callOf images call =
     cond (eqb (call .number) 0) (mark (call .a) (call .b))
     (cond (eqb (call .number) 1) (clear (call .a) (call .b))
     (cond (eqb (call .number) 2) (ask (call .a) (call .b))
     (cond (eqb (call .number) 3) (count (call .a) (call .b) (call .c) (call .d))
-    (cond (eqb (call .number) 4) (list (call .a) (call .b) (call .c) (call .d) (zeros (call .e) 64)) (save (zeros (call .e) 256))))))
+    (cond (eqb (call .number) 4) (list (call .a) (call .b) (call .c) (call .d) (zeros (call .e) 64))
+    (cond (eqb (call .number) 5) (save (zeros (call .e) 256))
+    (cond (eqb (call .number) 6) (load (take (call .b) (drop (call .a) images))) check))))))
 
 abbrev pub encodedAt : List ℕ → ℕ → Encoded
 encodedAt script i = record {
@@ -30,9 +32,9 @@ encodedAt script i = record {
 }
 
 -- the first n calls of a script
-unfoldable pub callsTo : List ℕ → ℕ → List Call
-callsTo script zero = []
-callsTo script (suc n) = callsTo script n ++ (callOf (encodedAt script n) ∷ [])
+unfoldable pub callsTo : List ℕ → List ℕ → ℕ → List Call
+callsTo images script zero = []
+callsTo images script (suc n) = callsTo images script n ++ (callOf images (encodedAt script n) ∷ [])
 
-abbrev pub callsOf : List ℕ → List Call
-callsOf script = callsTo script (length script / 6)
+abbrev pub callsOf : List ℕ → List ℕ → List Call
+callsOf images script = callsTo images script (length script / 6)

@@ -1,8 +1,8 @@
 // Whole lists of calls: what survives, and the claim about every two lists. replay runs such a list.
 ghost use Prim.Native.Nat.{_+_, _*_, _≤_};
 ghost use mathlib.Core.Path.{_≡_};
-ghost use lib.ListN.{length};
-ghost use Rattle.history.specs.Survivors.{list, save};
+ghost use lib.ListN.{length, take, drop};
+ghost use Rattle.history.specs.Survivors.{list, save, load};
 ghost use Rattle.history.specs.Run.{Step, Run};
 ghost use Rattle.history.specs.Script.{zeros, callOf, encodedAt, callsOf};
 use store::slots::wide;
@@ -35,9 +35,29 @@ pub fn save_step(store: &[u32], e: u32)
     register::save(store, &mut output[..n]);
 }
 
+// So many bytes from this place on, or as many as there are.
+pub fn part_of(bytes: &[u8], from: usize, number: usize) -> &[u8]
+    ensures { λ r. ⌜ now r ≡ take number (drop from (now (bytes .entry))) ⌝ }
+{
+    if bytes.len() <= from {
+        return &bytes[..0];
+    }
+    if bytes.len() - from <= number {
+        return &bytes[from..];
+    }
+    &bytes[from..from + number]
+}
+
+// load, with a part of the bytes beside the script.
+pub fn load_step(store: &mut [u32], images: &[u8], a: u32, b: u32)
+    ensures { λ _. ⌜ Step (load (take b (drop a (now (images .entry))))) (now (store .entry)) (now (store .exit)) ⌝ }
+{
+    register::load(store, part_of(images, wide(a), wide(b)));
+}
+
 // One call, run by calling it.
-pub fn step(store: &mut [u32], call: Encoded)
-    ensures { λ _. ⌜ Step (callOf call) (now (store .entry)) (now (store .exit)) ⌝ }
+pub fn step(store: &mut [u32], images: &[u8], call: Encoded)
+    ensures { λ _. ⌜ Step (callOf (now (images .entry)) call) (now (store .entry)) (now (store .exit)) ⌝ }
 {
     if call.number == 0 {
         register::mark(store, call.a, call.b);
@@ -59,7 +79,15 @@ pub fn step(store: &mut [u32], call: Encoded)
         list_step(store, call);
         return;
     }
-    save_step(store, call.e);
+    if call.number == 5 {
+        save_step(store, call.e);
+        return;
+    }
+    if call.number == 6 {
+        load_step(store, images, call.a, call.b);
+        return;
+    }
+    register::check(store);
 }
 
 // The call at this index of a script.
@@ -79,13 +107,13 @@ pub fn encoded_at(script: &[u32], i: usize) -> Encoded
 }
 
 // All the calls of a script, each on the store as the one before it left it.
-pub fn replay(store: &mut [u32], script: &[u32])
-    ensures { λ _. ⌜ Run (callsOf (now (script .entry))) (now (store .entry)) (now (store .exit)) ⌝ }
+pub fn replay(store: &mut [u32], script: &[u32], images: &[u8])
+    ensures { λ _. ⌜ Run (callsOf (now (images .entry)) (now (script .entry))) (now (store .entry)) (now (store .exit)) ⌝ }
 {
     let mut i = 0;
     while i < script.len() / 6 {
         let call = encoded_at(script, i);
-        step(store, call);
+        step(store, images, call);
         i += 1;
     }
 }
