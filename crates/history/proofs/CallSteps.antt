@@ -22,7 +22,7 @@ use Rattle.history.specs.Run as steps
 use Rattle.history.specs.Run.{Step, SaveRun, Run, done, then}
 
 -- any reference to these words: `Learnt` speaks of the words alone
-abbrev lent : List ℕ → RefT (List ℕ)
+abbrev pub lent : List ℕ → RefT (List ℕ)
 lent words = record { ptr = (0, 0); name = 0; now = words }
 
 module _ (before after : List ℕ) (x y : ℕ) where

@@ -4,3 +4,4 @@ pub mod Runs
 pub mod TwoLists
 pub mod Routines
 pub mod CallSteps
+pub mod Whole

@@ -3,3 +3,4 @@ pub mod Survivors
 pub mod Run
 pub mod Claim
 pub mod Script
+pub mod Whole

@@ -5,6 +5,9 @@ ghost use lib.ListN.{length, take, drop};
 ghost use Rattle.history.specs.Survivors.{list, save, load};
 ghost use Rattle.history.specs.Run.{Step, Run};
 ghost use Rattle.history.specs.Script.{zeros, callOf, encodedAt, callsOf};
+ghost use Rattle.history.specs.Whole.{RunMeets, SampleRan};
+ghost use Rattle.register.specs.Answer.{answer};
+use register::Outcome;
 use store::slots::wide;
 
 // A call as words: its number and its arguments.
@@ -116,4 +119,60 @@ pub fn replay(store: &mut [u32], script: &[u32], images: &[u8])
         step(store, images, call);
         i += 1;
     }
+}
+
+// 01's number of an outcome, 0 where the call was accepted.
+pub fn refusal_of(outcome: Outcome) -> u32
+    ensures { λ r. ⌜ r ≡ answer outcome .refusal ⌝ }
+{
+    match outcome {
+        Outcome::Done => 0,
+        Outcome::Refused(number) => number,
+    }
+}
+
+// make, then a script: a whole history. It answers make's number.
+pub fn run(store: &mut [u32], m: u32, k: u32, n: u32, script: &[u32], images: &[u8]) -> u32
+    ensures { λ r. ⌜ RunMeets (now (store .entry)) (now (store .exit)) m k n (now (script .entry)) (now (images .entry)) r ⌝ }
+{
+    let number = refusal_of(register::make(store, m, k, n));
+    if number == 0 {
+        replay(store, script, images);
+    }
+    number
+}
+
+// 01's codes 0, 1, 4, then mark 2, with m = k = 3 and N = 4: a history with nothing left open.
+pub fn sample()
+    ensures { λ _. ⌜ SampleRan ⌝ }
+{
+    let mut store = [0u32; 64];
+    let script = [
+        0u32,
+        0,
+        0,
+        0,
+        0,
+        0,
+        0,
+        1,
+        0,
+        0,
+        0,
+        0,
+        0,
+        2,
+        0,
+        0,
+        0,
+        0,
+        0,
+        0,
+        1,
+        0,
+        0,
+        0,
+    ];
+    let images = [0u8; 1];
+    run(&mut store, 3, 3, 4, &script, &images);
 }
