@@ -61,14 +61,14 @@ ListCase words window before after t set (Written n opened) =
 ListCase words window before after t set (Short n) = (n ≡ length (found window set)) × (length before < n) × (after ≡ before)
 ListCase words window before after t set Broken = ⊥
 
--- whatever the words are: never more pixels found, or found to be needed, than N, nor more blocks opened than S
-abbrev pub ListWithin : List ℕ → Listed → Type 0
-ListWithin words (Written n opened) = WithinSizes words n opened
-ListWithin words (Short n) = WithinSizes words n 0
-ListWithin words Broken = Unit {0}
+-- whatever the words are: never more pixels found, or found to be needed, than N, nor more than the output holds, nor more blocks opened than S
+abbrev pub ListWithin : List ℕ → List ℕ → Listed → Type 0
+ListWithin words before (Written n opened) = WithinSizes words n opened × (n ≤ length before)
+ListWithin words before (Short n) = WithinSizes words n 0
+ListWithin words before Broken = Unit {0}
 
 pub record ListAnswer (words : List ℕ) (window : tree.Window) (before after : List ℕ) (r : Listed) : Type 0 where
-  pub bounds : ListWithin words r
+  pub bounds : ListWithin words before r
   pub sound : (set : List ℕ) → Holds words set → Ordered window → BeginsOnPanel (panelOf (sizesOf words)) window
       → ListCase words window before after (setTree (panelOf (sizesOf words)) (member set)) set r
   pub short : (n : ℕ) → r ≡ Short n → (after ≡ before) × (length before < n)

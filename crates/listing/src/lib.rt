@@ -137,7 +137,7 @@ pub fn list(store: &[u32], sizes: Sizes, window: Window, output: &mut [u32]) -> 
         most: sizes.most,
         window,
     };
-    let Counted::Seen { found: n, opened } = list_block(
+    let Counted::Seen { found: _, opened } = list_block(
         store,
         look,
         0,
@@ -149,5 +149,5 @@ pub fn list(store: &[u32], sizes: Sizes, window: Window, output: &mut [u32]) -> 
     ) else {
         return Listed::Broken;
     };
-    Listed::Written { found: n, opened }
+    Listed::Written { found, opened }
 }

@@ -189,6 +189,7 @@ module _ (words : List ℕ) (x0 y0 x1 y1 : ℕ) where
           zeros = λ z q. refl;
           no-opened = λ z. refl;
           bounded = λ u. (omega arith, omega arith);
+          within = λ z. omega arith;
           sound-short = λ set holds on o l. absurd (never-refused n h (holds .sound .usable) on o);
           sound = λ set holds on o l. absurd (never-refused n h (holds .sound .usable) on o);
           unchanged = λ z q. same;
@@ -204,7 +205,8 @@ module _ (words : List ℕ) (x0 y0 x1 y1 : ℕ) where
             else-answered = λ u on o. inl refl;
             zeros = λ z q. absurd (z refl);
             no-opened = λ z. absurd (z refl);
-            bounded = λ u. (a .bounds .found-to, a .bounds .opened-to);
+            bounded = λ u. (a .bounds .0 .found-to, a .bounds .0 .opened-to);
+            within = λ z. a .bounds .1;
             sound-short = λ set holds on o l.
                 let c = a .sound set holds (record { x-ordered = o .0; y-ordered = o .1 }) (record { x-on = on .0 .0; y-on = on .0 .1 }) in
                 absurd (omega (arith, c .0, c .2));
@@ -224,6 +226,7 @@ module _ (words : List ℕ) (x0 y0 x1 y1 : ℕ) where
             zeros = λ z q. absurd (q refl);
             no-opened = λ z. refl;
             bounded = λ u. (a .bounds .found-to, omega arith);
+            within = λ z. absurd (omega arith);
             sound-short = λ set holds on o l.
                 let c = a .sound set holds (record { x-ordered = o .0; y-ordered = o .1 }) (record { x-on = on .0 .0; y-on = on .0 .1 }) in
                 ap (λ (i : ℕ). record { refusal = 9; first = i; second = 0 }) (c .0);
@@ -242,6 +245,7 @@ module _ (words : List ℕ) (x0 y0 x1 y1 : ℕ) where
             zeros = λ z q. refl;
             no-opened = λ z. refl;
             bounded = λ u. (omega arith, omega arith);
+            within = λ z. omega arith;
             sound-short = λ set holds on o l. absurd (a .sound set holds (record { x-ordered = o .0; y-ordered = o .1 }) (record { x-on = on .0 .0; y-on = on .0 .1 }));
             sound = λ set holds on o l. absurd (a .sound set holds (record { x-ordered = o .0; y-ordered = o .1 }) (record { x-on = on .0 .0; y-on = on .0 .1 }));
             unchanged = λ z q. absurd (q refl);
@@ -256,6 +260,8 @@ module _ (words before after : List ℕ) where
         else-answered = λ u. absurd (fails u);
         zeros = λ z q. refl;
         no-second = refl;
+        bounded = λ u. omega arith;
+        within = λ z. omega arith;
         spoiled = λ u s. absurd (fails u);
         sound-short = λ set holds l. absurd (fails (holds .sound .usable));
         sound = λ set holds l. absurd (fails (holds .sound .usable));
@@ -271,6 +277,8 @@ module _ (words before after : List ℕ) where
           else-answered = λ u. inl refl;
           zeros = λ z q. absurd (z refl);
           no-second = refl;
+          bounded = λ u. a .bounds .0;
+          within = λ z. a .bounds .1;
           spoiled = λ u s. zero-is-not-one (cc (a .closed (spoiled-shut words u s)));
           sound-short = λ set holds l. let c = a .sound set holds in absurd (omega (arith, c .0, c .1));
           sound = λ set holds l. let c = a .sound set holds in (ap (λ (i : ℕ). accepted i 0) (c .0), c .2);
@@ -285,6 +293,8 @@ module _ (words before after : List ℕ) where
           else-answered = λ u. inr (inl refl);
           zeros = λ z q. absurd (q refl);
           no-second = refl;
+          bounded = λ u. a .bounds;
+          within = λ z. absurd (omega arith);
           spoiled = λ u s. zero-is-not-one (cc (a .closed (spoiled-shut words u s)));
           sound-short = λ set holds l. let c = a .sound set holds in ap (λ (i : ℕ). record { refusal = 9; first = i; second = 0 }) (c .0);
           sound = λ set holds l. let c = a .sound set holds in absurd (omega (arith, c .0, c .1));
@@ -299,6 +309,8 @@ module _ (words before after : List ℕ) where
           else-answered = λ u. inr (inr refl);
           zeros = λ z q. refl;
           no-second = refl;
+          bounded = λ u. omega arith;
+          within = λ z. omega arith;
           spoiled = λ u s. refl;
           sound-short = λ set holds l. absurd (a .sound set holds);
           sound = λ set holds l. absurd (a .sound set holds);

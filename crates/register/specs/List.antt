@@ -23,6 +23,8 @@ pub record ListMeets (words : List ℕ) (x0 y0 x1 y1 : ℕ) (before after : List
   pub no-opened : (listAnswer r .refusal ≡ 0 → ⊥) → listAnswer r .second ≡ 0
   -- whatever the words are: never more than S blocks opened, nor more than N pixels found
   pub bounded : UsableStore words → (listAnswer r .first ≤ getD words 3 0) × (listAnswer r .second ≤ slotCount (getD words 2 0) (getD words 3 0))
+  -- nor more than the output holds
+  pub within : listAnswer r .refusal ≡ 0 → listAnswer r .first ≤ length before
   -- on a sound store: 9 with the needed number of words exactly where the output is too short, else count's answer and the codes
   pub sound-short : (set : List ℕ) → Holds words set → CornersOn words x0 y0 x1 y1 → InOrder x0 y0 x1 y1
       → length before < length (found (windowGiven x0 y0 x1 y1) set) → listAnswer r ≡ short (length (found (windowGiven x0 y0 x1 y1) set))

@@ -1,11 +1,11 @@
 -- 01 "Calls": save (store, output bytes).
-use Prim.Native.Nat.{ℕ, _≤_, _<_}
+use Prim.Native.Nat.{ℕ, _+_, _*_, _≤_, _<_}
 use mathlib.Core.Path.{_≡_}
 use mathlib.Core.Logic.{_⊎_, _↔_}
 use mathlib.Core.List.{List, _++_}
-use lib.ListN.{length, drop}
+use lib.ListN.{length, getD, drop}
 use Rattle.pktree.specs.Image.{image}
-use Rattle.store.specs.Sizes.{panelOf, sizesOf, UsableStore}
+use Rattle.store.specs.Sizes.{panelOf, slotCount, sizesOf, UsableStore}
 use Rattle.store.specs.Sound.{Holds}
 use Rattle.register.specs.declared.Saving.{Saving}
 use Rattle.register.specs.Answer.{accepted, short, saveAnswer}
@@ -23,6 +23,9 @@ pub record SaveMeets (words before after : List ℕ) (r : Saving) : Type 0 where
   pub zeros : (saveAnswer r .refusal ≡ 0 → ⊥) → (saveAnswer r .refusal ≡ 9 → ⊥) → saveAnswer r .first ≡ 0
   pub no-second : saveAnswer r .second ≡ 0
   pub spoiled : UsableStore words → Spoiled words → saveAnswer r .refusal ≡ 13
+  -- whatever the words are: never a longer image than N pixels in S blocks have, nor one that is longer than the output
+  pub bounded : UsableStore words → saveAnswer r .first ≤ 10 + 5 * (getD words 3 0 + slotCount (getD words 2 0) (getD words 3 0))
+  pub within : saveAnswer r .refusal ≡ 0 → saveAnswer r .first ≤ length before
   -- on a sound store: 9 with the needed length exactly where the output is too short, else the image, byte for byte, and its length
   pub sound-short : (set : List ℕ) → Holds words set → length before < length (imageOf words set) → saveAnswer r ≡ short (length (imageOf words set))
   pub sound : (set : List ℕ) → Holds words set → length (imageOf words set) ≤ length before

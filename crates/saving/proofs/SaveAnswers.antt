@@ -22,7 +22,7 @@ use Rattle.saving.specs.declared.Saved.{Saved}
 use Rattle.saving.specs.declared.Saved.the-variants as variants
 use Rattle.saving.specs.declared.Imaged.the-variants.{Whole, TooShort, Unreadable}
 use Rattle.query.specs.Counting.{CountAnswer}
-use Rattle.saving.specs.Saving.{CanSave, EntriesPut, HeaderPut, SaveMeets, SaveAnswer}
+use Rattle.saving.specs.Saving.{CanSave, EntriesPut, HeaderPut, SaveMeets, mostBytes, SaveAnswer}
 use Rattle.saving.proofs.EntryWrites.{length-headed}
 use Rattle.query.proofs.RootLook.{sizes-valid}
 use Rattle.saving.proofs.SavedImage.{heldTree, whole-counted, entries-counted, rootSaving, root-saved, image-put}
@@ -58,6 +58,7 @@ module _ {words : List ℕ} {counted : Counted} (answer : CountAnswer words (who
   pub no-count : {before : List ℕ} → counted ≡ Damaged → SaveAnswer words before before Unreadable
   no-count e =
       record {
+        bounds = tt;
         sound = λ set holds. zero-is-not-one (cc (whole-counted holds answer));
         short = λ needed f. zero-is-not-one (cc);
         long = refl;
@@ -79,10 +80,15 @@ module _ {words : List ℕ} {counted : Counted} (answer : CountAnswer words (who
     not-closed : CannotOpen (slotWidth (getD words 2 0)) words 0 (getD words 1 0) 0 → ⊥
     not-closed shut = zero-is-not-one (cc (answer .closed shut))
 
+    -- what was counted is within the sizes, whatever the words are
+    few-bytes : 10 + 5 * (found + opened) ≤ mostBytes words
+    few-bytes = let b = rw seen at (answer .bounds) in omega (arith, b .found-to, b .opened-to)
+
     -- the needed length is the image's
     pub too-short : {before : List ℕ} → length before < 10 + 5 * (found + opened) → SaveAnswer words before before (TooShort (10 + 5 * (found + opened)))
     too-short h =
         record {
+          bounds = few-bytes;
           sound = λ set holds. (numbers holds .2, h, refl);
           short = λ needed f. let e : 10 + 5 * (found + opened) ≡ needed = cc in (refl, rw e at h);
           long = refl;
@@ -107,6 +113,7 @@ module _ {words : List ℕ} {counted : Counted} (answer : CountAnswer words (who
       pub no-walk : r ≡ variants.Damaged → SaveAnswer words before after Unreadable
       no-walk e =
           record {
+            bounds = tt;
             sound = λ set holds. zero-is-not-one (cc (all-put holds .answer));
             short = λ needed f. zero-is-not-one (cc);
             long = same-length;
@@ -118,6 +125,7 @@ module _ {words : List ℕ} {counted : Counted} (answer : CountAnswer words (who
       all-written =
           let sum : n + m ≡ found + opened = omega arith in
           record {
+            bounds = (few-bytes, room);
             sound = λ set holds. (
               numbers holds .2,
               room,

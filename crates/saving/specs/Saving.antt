@@ -8,7 +8,7 @@ use Rattle.pktree.specs.Elements.{Forest, empty, pixel, block}
 use Rattle.pktree.specs.Entries.{Entry, entry, entries}
 use Rattle.pktree.specs.Image.{fourBytes, image}
 use Rattle.store.specs.Placed.{Placed, forestOf}
-use Rattle.store.specs.Sizes.{panelOf, slotWidth, sizesOf}
+use Rattle.store.specs.Sizes.{panelOf, slotWidth, slotCount, sizesOf}
 use Rattle.store.specs.Sound.{Holds}
 use Rattle.store.specs.Opening.{CannotOpen}
 use Rattle.store.specs.Layout.{LayoutFits}
@@ -79,7 +79,18 @@ SaveCase bytes before after (Whole n) = (n ≡ length bytes) × (n ≤ length be
 SaveCase bytes before after (TooShort n) = (n ≡ length bytes) × (length before < n) × (after ≡ before)
 SaveCase bytes before after Unreadable = ⊥
 
+-- the most bytes that an image of N pixels in S blocks has
+abbrev pub mostBytes : List ℕ → ℕ
+mostBytes words = 10 + 5 * (getD words 3 0 + slotCount (getD words 2 0) (getD words 3 0))
+
+-- whatever the words are: never a longer image than that, nor one that is longer than the output
+abbrev pub SaveWithin : List ℕ → List ℕ → Imaged → Type 0
+SaveWithin words before (Whole n) = (n ≤ mostBytes words) × (n ≤ length before)
+SaveWithin words before (TooShort n) = n ≤ mostBytes words
+SaveWithin words before Unreadable = Unit {0}
+
 pub record SaveAnswer (words before after : List ℕ) (r : Imaged) : Type 0 where
+  pub bounds : SaveWithin words before r
   pub sound : (set : List ℕ) → Holds words set → SaveCase (image (panelOf (sizesOf words)) set) before after r
   pub short : (n : ℕ) → r ≡ TooShort n → (after ≡ before) × (length before < n)
   pub long : length after ≡ length before

@@ -68,20 +68,19 @@ module _ {words : List ℕ} {window : Window} {counted : Counted} (count : Count
             closed = λ shut. refl;
           }
 
-      listed : {x y : ℕ} → r ≡ Seen x y → ListAnswer words (windowOf window) before after (Written x y)
+      listed : {x y : ℕ} → r ≡ Seen x y → ListAnswer words (windowOf window) before after (Written n y)
       listed {x} {y} f =
-          let b = rw f at (meets .bounds) in
+          let b = rw e at (count .bounds) in
+          let o = rw f at (meets .bounds) in
           record {
-            bounds = record { found-to = b .0; opened-to = b .1 };
+            bounds = (record { found-to = b .found-to; opened-to = o .1 }, fits);
             sound = λ set holds ordered on.
                 let (es, t, w) = root-wrote set holds ordered on in
                 let a = w .answer in
-                let p : x ≡ 0 + length (found (windowOf window) (pixels (forestOf es))) = cc in
                 let q : y ≡ 1 + openedByWindow (windowOf window) (forestOf es) = cc in
-                let l = ap length (t .all-found) in
                 let s = count .sound set holds ordered on in
                 let z : n ≡ length (found (windowOf window) set) = cc in
-                (omega arith, omega (arith, t .all-opened), omega arith, w .output ∙ ap (writtenAt before 0) (t .all-found));
+                (z, omega (arith, t .all-opened), fits, w .output ∙ ap (writtenAt before 0) (t .all-found));
             short = λ n g. zero-is-not-one (cc);
             long = meets .long;
             closed = λ shut. let s = count .closed shut in zero-is-not-one (cc);
@@ -123,7 +122,7 @@ returns-4 : tie.Need-returns-4
 returns-4 c =
     let on = c .before .before .before .before .before in
     let seen = on .before .before .before .before .before .before in
-    listed (seen .before .before .count .ensures) (seen .found .given .1) (omega (arith, on .before .before .before)) (walked on) (c .before .n .given .1)
+    listed (seen .before .before .count .ensures) (seen .found .given .1) (omega (arith, on .before .before .before)) (walked on) (c .before .opened .given .1)
 
 pub list-spec : {M : Type 1} → statement M
 list-spec =
