@@ -1,13 +1,14 @@
 -- The descent to a code: where it stands after each turn, on any store and on a sound one, and what each end of it says.
-use Prim.Native.Nat.{ℕ, _+_, _*_, _^_, _≤_, _<_}
+use Prim.Native.Nat.{ℕ, _+_, _^_, _≤_, _<_}
 use native.Mathlib.Omega.{arith}
 use native.Mathlib.Nat.{le-trans}
 use native.Mathlib.Decide.{decLt}
 use mathlib.Core.Path.{_≡_, refl, ap, sym, _∙_}
 use mathlib.Core.Bool.{Bool, true, false}
+use mathlib.Core.Logic.{inl, inr}
 use mathlib.Core.List.{List, [], _∷_}
-use lib.ListN.{length, getD, set, drop, length-set, length-drop}
-use lib.Seq.{getD-set-same, getD-set-other, length-take-le}
+use lib.ListN.{length, getD, set, length-set}
+use lib.Seq.{getD-set-same, getD-set-other}
 use Rattle.pktree.specs.Elements.{size}
 use Rattle.pktree.proofs.Absurd.{zero-is-not-one}
 use Rattle.store.specs.Sizes.{sizesOf, slotCount, slotWidth}
@@ -17,13 +18,12 @@ use Rattle.store.specs.Opening.{HeaderSays, CannotOpen}
 use Rattle.store.specs.declared.sizes.Layout.{Layout}
 use Rattle.store.specs.Placed.{Placed, forestOf}
 use Rattle.store.specs.Sound.{Sound}
-use Rattle.store.proofs.Bounds.{slot-ends}
 use Rattle.store.proofs.SoundView.{sound-view}
 use Rattle.store.proofs.BlockView.{BlockView, ChildView, elements-lie, child-view}
 use Rattle.descent.specs.Way.{Frame, plug}
 use Rattle.descent.specs.Looked.{LookedHere, InnerBlock}
 use Rattle.descent.specs.declared.Located.{Located}
-use Rattle.descent.specs.Located.{PathNames, LocateMeets}
+use Rattle.descent.specs.Located.{CanEnter, PathNames, LocateMeets}
 use Rattle.store.proofs.Usable.{slot-long}
 use Rattle.descent.proofs.Looking.{EntersBlock, looked-here, looked-inner}
 use Rattle.descent.proofs.Ways.{seen-on-way, names-more}
@@ -166,11 +166,9 @@ module _ {words : List ℕ} {layout : Layout} {order code : ℕ} {slots places :
           let e = entered placed args in
           child-view _ _ _ words slot level block (d .reached placed args .es) (e .before) s i c (e .inside) (e .after) (seen-here placed args) (e .is)
 
-      pub never-rises : level ≤ i → NoSound words layout order code
-      never-rises h placed args = omega (arith, entered-view placed args .below)
-
-      pub never-outside : layout .slots ≤ s → NoSound words layout order code
-      never-outside h placed args = omega (arith, entered-view placed args .view .slot-below)
+      pub never-barred : CanEnter layout level s i false → NoSound words layout order code
+      never-barred (inl h) placed args = omega (arith, entered-view placed args .below)
+      never-barred (inr h) placed args = omega (arith, entered-view placed args .view .slot-below)
 
       pub steps-down : order ≤ 16 → i < level → s < layout .slots → Descended words layout order code (set slots depth slot) (set places depth place) (depth + 1) s i c
       steps-down low less below =

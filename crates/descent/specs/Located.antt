@@ -1,7 +1,8 @@
 -- What the descent to a code finds: the smallest block that holds it, and its place among that block's elements.
-use Prim.Native.Nat.{ℕ, zero, suc, _+_, _-_, _^_, _≤_, _<_}
+use Prim.Native.Nat.{ℕ, suc, _+_, _^_, _≤_, _<_}
 use mathlib.Core.Path.{_≡_}
 use mathlib.Core.Bool.{Bool, true, false}
+use mathlib.Core.Logic.{_⊎_}
 use mathlib.Core.List.{List, [], _∷_}
 use lib.ListN.{length, getD}
 use Rattle.pktree.specs.Elements.{size}
@@ -39,6 +40,16 @@ pub record LocatedIn (words : List ℕ) (placed : Placed) (code : ℕ) (r : Loca
   pub names : PathNames (r .slots) (r .places) way
   pub holds : (r .block ≤ code) × (code < r .block + 4 ^ r .level)
   pub place : PlaceIn (getD words 2 0) (r .level) (r .block) code (r .block + 4 ^ r .level) (r .place) (r .marked) es
+
+-- whether an inner block's level is lower and its slot is one of the store's
+abbrev pub CanEnter : Layout → ℕ → ℕ → ℕ → Bool → Type 0
+CanEnter layout level slot inner true = (inner < level) × (slot < layout .slots)
+CanEnter layout level slot inner false = (level ≤ inner) ⊎ (layout .slots ≤ slot)
+
+-- not damaged, and with each value in its field
+abbrev pub FoundAt : Bool → ℕ → ℕ → ℕ → ℕ → ℕ → List ℕ → List ℕ → Located → Type 0
+FoundAt marked slot level block place depth slots places r =
+    r ≡ record { damaged = false; marked = marked; slot = slot; level = level; block = block; place = place; depth = depth; slots = slots; places = places }
 
 -- on every store the numbers stay in bounds
 pub record LocatedBounds (slots order : ℕ) (r : Located) : Type 0 where

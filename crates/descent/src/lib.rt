@@ -4,7 +4,7 @@ ghost use mathlib.Core.Bool.{true};
 ghost use lib.ListN.{length};
 ghost use Rattle.store.specs.Layout.{LayoutFits};
 ghost use Rattle.descent.specs.Looked.{Looked};
-ghost use Rattle.descent.specs.Located.{LocateMeets};
+ghost use Rattle.descent.specs.Located.{CanEnter, FoundAt, LocateMeets};
 use store::elements::Element;
 use store::elements::element_at;
 use store::elements::find_place;
@@ -34,11 +34,12 @@ pub fn look(part: &[u32], count: usize, code: u32) -> Ahead
     ensures { λ r. ⌜ Looked (now (part .entry)) count code r ⌝ }
 {
     let place = find_place(part, count, code);
+    let between = Ahead::Here {
+        place,
+        marked: false,
+    };
     if place == 0 {
-        return Ahead::Here {
-            place,
-            marked: false,
-        };
+        return between;
     }
     let last = place - 1;
     let Element::Block {
@@ -53,16 +54,10 @@ pub fn look(part: &[u32], count: usize, code: u32) -> Ahead
                 marked: true,
             };
         }
-        return Ahead::Here {
-            place,
-            marked: false,
-        };
+        return between;
     };
     if level < morton::common_level(inner, code) {
-        return Ahead::Here {
-            place,
-            marked: false,
-        };
+        return between;
     }
     Ahead::Inner {
         place: last,
@@ -103,17 +98,7 @@ pub fn locate(store: &[u32], layout: Layout, order: u32, code: u32) -> Located
         };
         match look(part, count, code) {
             Ahead::Here { place, marked } => {
-                return Located {
-                    damaged: false,
-                    marked,
-                    slot,
-                    level,
-                    block,
-                    place,
-                    depth,
-                    slots,
-                    places,
-                };
+                return found_at(marked, slot, level, block, place, depth, slots, places);
             }
             Ahead::Inner {
                 place,
@@ -121,10 +106,7 @@ pub fn locate(store: &[u32], layout: Layout, order: u32, code: u32) -> Located
                 level: inner_level,
                 code: inner_code,
             } => {
-                if level <= inner_level {
-                    return damaged_at(slots, places);
-                }
-                if layout.slots <= wide(inner_slot) {
+                if !can_enter(layout, level, inner_slot, inner_level) {
                     return damaged_at(slots, places);
                 }
                 slots[depth] = slot;
@@ -137,6 +119,44 @@ pub fn locate(store: &[u32], layout: Layout, order: u32, code: u32) -> Located
         }
     }
     damaged_at(slots, places)
+}
+
+// A block is entered where its level is lower and its slot is one of the store's.
+fn can_enter(layout: Layout, level: u32, slot: u32, inner: u32) -> bool
+    ensures { λ r. ⌜ CanEnter layout level slot inner r ⌝ }
+{
+    if level <= inner {
+        return false;
+    }
+    if layout.slots <= wide(slot) {
+        return false;
+    }
+    true
+}
+
+fn found_at(
+    marked: bool,
+    slot: u32,
+    level: u32,
+    block: u32,
+    place: usize,
+    depth: usize,
+    slots: [u32; 17],
+    places: [u32; 17],
+) -> Located
+    ensures { λ r. ⌜ FoundAt marked slot level block place depth slots places r ⌝ }
+{
+    Located {
+        damaged: false,
+        marked,
+        slot,
+        level,
+        block,
+        place,
+        depth,
+        slots,
+        places,
+    }
 }
 
 fn damaged_at(slots: [u32; 17], places: [u32; 17]) -> Located

@@ -17,7 +17,7 @@ use Rattle.store.specs.declared.elements.Element.{Element}
 use Rattle.store.specs.declared.elements.Element.the-variants.{Pixel, Block}
 use Rattle.query.specs.declared.count.Look.{Look}
 use Rattle.query.specs.declared.count.Counted.{Counted}
-use Rattle.query.specs.declared.count.Counted.the-variants.{Seen, Damaged}
+use Rattle.query.specs.declared.count.Counted.the-variants.{Damaged}
 use Rattle.listing.specs.declared.Listed.{Listed}
 use Rattle.listing.specs.declared.Listed.the-variants.{Written, Short, Broken}
 use Rattle.query.specs.Corners.{windowOf}

@@ -1,13 +1,12 @@
 -- What the descent finds is what ask answers.
-use Prim.Native.Nat.{ℕ, suc, _+_, _^_, _≤_, _<_}
+use Prim.Native.Nat.{ℕ, suc, _+_, _^_, _<_}
 use native.Mathlib.Omega.{arith}
 use mathlib.Core.Path.{_≡_, refl, ap, ap₂, subst, sym, _∙_}
-use mathlib.Core.Bool.{Bool, true, false}
+use mathlib.Core.Bool.{true, false}
 use mathlib.Core.List.{List}
 use lib.ListN.{getD}
 use Rattle.pktree.specs.PixelSet.{member}
-use Rattle.pktree.specs.Elements.{Forest}
-use Rattle.pktree.specs.Tree.{tree, pixels}
+use Rattle.pktree.specs.Tree.{tree}
 use Rattle.pktree.specs.Window.{openedByPixel}
 use Rattle.pktree.proofs.Absurd.{zero-is-not-one}
 use Rattle.store.specs.declared.sizes.Sizes.{Sizes}
@@ -17,7 +16,6 @@ use Rattle.store.specs.Layout.{layoutOf, LaidOut}
 use Rattle.store.specs.Slot.{slotPart, countWord}
 use Rattle.store.specs.Opening.{HeaderSays, CannotOpen}
 use Rattle.store.specs.Placed.{forestOf}
-use Rattle.store.specs.Sound.{Sound, Holds}
 use Rattle.descent.specs.declared.Located.{Located}
 use Rattle.descent.specs.Located.{LocateMeets}
 use Rattle.descent.proofs.OpenedByPixel.{opened-by-pixel, marked-exactly}

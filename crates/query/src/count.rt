@@ -53,17 +53,11 @@ pub fn count_block(
     let mut opened_now = opened + 1;
     let mut i = 0;
     while i < count {
+        let element = element_at(part, i);
         let Counted::Seen {
             found: f,
             opened: o,
-        } = count_element(
-            store,
-            look,
-            element_at(part, i),
-            level,
-            found_now,
-            opened_now,
-        )
+        } = count_element(store, look, element, level, found_now, opened_now)
         else {
             return Counted::Damaged;
         };

@@ -1,15 +1,14 @@
 -- What mark and clear ensure, from what judges their refusals and what changes the store.
-use Prim.Native.Nat.{ℕ, _≤_, _<_}
+use Prim.Native.Nat.{ℕ}
 use native.Mathlib.Omega.{arith}
 use mathlib.Core.Path.{_≡_, refl, ap, subst}
-use mathlib.Core.Logic.{_⊎_, inl, inr}
+use mathlib.Core.Logic.{inl, inr}
 use mathlib.Core.List.{List}
 use lib.ListN.{length, getD, drop}
 use Rattle.morton.specs.Code.{codeOf}
 use Rattle.pktree.proofs.Absurd.{zero-is-not-one}
 use Rattle.store.specs.declared.sizes.Sizes.{Sizes}
 use Rattle.store.specs.Sizes.{storeWords, sizesOf, UsableStore}
-use Rattle.store.specs.Sound.{Holds}
 use Rattle.refusals.specs.Judged.{HasPixelOn, PixelGiven, PixelRefused}
 use Rattle.update.specs.declared.marks.Marking.{Marking}
 use Rattle.update.specs.declared.marks.Marking.the-variants as marking

@@ -1,24 +1,22 @@
 -- What ask, count, list and save ensure, from what judges their refusals and what walks the store.
-use Prim.Native.Nat.{ℕ, zero, suc, _+_, _*_, _≤_, _<_}
+use Prim.Native.Nat.{ℕ, _+_}
 use native.Mathlib.Omega.{arith}
 use native.Mathlib.Nat.{zero-add}
-use mathlib.Core.Path.{_≡_, refl, ap, ap₂, subst, sym, _∙_}
-use mathlib.Core.Logic.{_⊎_, inl, inr}
+use mathlib.Core.Path.{_≡_, refl, ap, ap₂, subst, _∙_}
+use mathlib.Core.Logic.{inl, inr}
 use mathlib.Core.Bool.{Bool}
 use mathlib.Core.List.{List, _++_}
 use lib.ListN.{length, getD, drop}
-use Rattle.morton.specs.Code.{codeOf}
 use Rattle.pktree.specs.PixelSet.{member}
 use Rattle.pktree.specs.Tree.{tree}
 use Rattle.pktree.specs.Window.{found, openedByPixel, openedByWindow}
 use Rattle.pktree.proofs.Absurd.{zero-is-not-one}
 use Rattle.store.specs.declared.sizes.Sizes.{Sizes}
 use Rattle.store.specs.Sizes.{panelOf, slotWidth, sizesOf, UsableStore}
-use Rattle.store.specs.Slot.{slotPart, levelWord}
+use Rattle.store.specs.Slot.{slotPart}
 use Rattle.store.specs.Opening.{CannotOpen}
-use Rattle.store.specs.Sound.{Holds}
 use Rattle.store.proofs.SlotWrites.{slot-word}
-use Rattle.refusals.specs.Judged.{HasPixelOn, PixelGiven, PixelRefused, CornersOn, WindowGiven, WindowRefused}
+use Rattle.refusals.specs.Judged.{PixelGiven, PixelRefused, CornersOn, WindowGiven, WindowRefused}
 use Rattle.query.specs.declared.ask.Asked.the-variants as asked
 use Rattle.query.specs.Asking.{AskAnswer}
 use Rattle.query.specs.declared.count.Counted.the-variants as counted
@@ -36,7 +34,7 @@ use Rattle.register.specs.Spoiled.{Spoiled}
 use Rattle.register.specs.Ask.{AskMeets}
 use Rattle.register.specs.Count.{windowGiven, InOrder, WindowRefusals, CountMeets}
 use Rattle.register.specs.List.{ListMeets}
-use Rattle.register.specs.Save.{imageOf, SaveMeets}
+use Rattle.register.specs.Save.{SaveMeets}
 
 -- a spoiled store's root is no block of the panel
 pub spoiled-shut : (words : List ℕ) → UsableStore words → Spoiled words → CannotOpen (slotWidth (getD words 2 0)) words 0 (getD words 1 0) 0

@@ -1,10 +1,10 @@
 -- What make leaves, from what its parts ensure.
-use Prim.Native.Nat.{ℕ, _+_, _*_, _-_, _≤_, _<_}
+use Prim.Native.Nat.{ℕ, _+_, _-_, _≤_, _<_}
 use native.Mathlib.Omega.{arith}
 use mathlib.Core.Path.{_≡_, refl, ap, sym, subst, _∙_}
-use mathlib.Core.List.{List, []}
-use lib.ListN.{length, take, drop}
-use lib.Seq.{drop-drop, take-take}
+use mathlib.Core.List.{List}
+use lib.ListN.{length, drop}
+use lib.Seq.{drop-drop}
 use Rattle.store.specs.Sizes.{ValidSizes, storeWords, sizesOf, WroteSizes}
 use Rattle.store.specs.Emptied.{Emptied}
 use Rattle.store.proofs.SlotWrites.{take-less}

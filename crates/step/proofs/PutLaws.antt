@@ -1,23 +1,20 @@
 -- What `put` finds in a slot's words.
 use Prim.Native.Nat.{ℕ, _+_, _-_, _*_, _/_, _≤_, _<_}
 use native.Mathlib.Omega.{arith}
-use mathlib.Core.Path.{_≡_, sym, _∙_}
+use mathlib.Core.Path.{_≡_, sym}
 use mathlib.Core.List.{List}
 use lib.ListN.{length, getD}
 use Rattle.store.specs.declared.sizes.Layout.{Layout}
 use Rattle.store.specs.Layout.{LayoutFits, SlotOffset}
-use Rattle.store.specs.Slot.{slotPart, levelWord, countWord}
+use Rattle.store.specs.Slot.{slotPart, countWord}
 use Rattle.store.specs.Splice.{CanSplice}
 use Rattle.store.proofs.SlotWrites.{slot-word}
 use Rattle.store.proofs.Usable.{slot-long}
 
 module _ (layout : Layout) (words : List ℕ) (slot at : ℕ) (fits : LayoutFits layout words) (below : slot < layout .slots) (o : SlotOffset layout slot at) where
-  -- the count and the level, read in the store
+  -- the number of elements, read in the store
   pub count-at : getD words (at + 2) 0 ≡ countWord (slotPart (layout .width) words slot)
   count-at = sym (slot-word (layout .width) slot words (at + 2) 2 (omega (arith, o .is)) (omega (arith, fits .within .width-from)))
-
-  pub level-at : getD words at 0 ≡ levelWord (slotPart (layout .width) words slot)
-  level-at = sym (slot-word (layout .width) slot words at 0 (omega (arith, o .is)) (omega (arith, fits .within .width-from)))
 
   -- the three tests are those of a splice that can be done
   pub put-can : (count place removed inserted : ℕ) (scratch : List ℕ) → count ≡ countWord (slotPart (layout .width) words slot)

@@ -1,5 +1,5 @@
 -- How a step of a change ends: after the splice the elements lie in the slot, and they are right, or a run of them is to be a block.
-use Prim.Native.Nat.{ℕ, zero, suc, _+_, _-_, _*_, _≤_, _<_}
+use Prim.Native.Nat.{ℕ, zero, suc, _+_, _*_, _≤_, _<_}
 use native.Mathlib.Omega.{arith}
 use mathlib.Core.Path.{_≡_, refl, ap, subst, sym, _∙_}
 use mathlib.Core.Logic.{_⊎_, inl, inr}
@@ -10,12 +10,11 @@ use lib.Seq.{getD-take, getD-set-same, length-take-le}
 use Rattle.pktree.specs.Elements.{size}
 use Rattle.pktree.proofs.Arranged.{LocallyRight}
 use Rattle.store.specs.declared.sizes.Layout.{Layout}
-use Rattle.store.specs.Layout.{LayoutFits, SlotOffset, storeEnd}
+use Rattle.store.specs.Layout.{LayoutFits, storeEnd}
 use Rattle.store.specs.Slot.{slotPart, levelWord, countWord}
 use Rattle.store.specs.Splice.{CanSplice}
 use Rattle.store.specs.FreeSlots.{Released}
 use Rattle.store.specs.Placed.{Placed, _⧻_, forestOf}
-use Rattle.store.proofs.SlotWrites.{lent-part}
 use Rattle.store.proofs.Usable.{slot-long}
 use Rattle.descent.specs.Way.{Frame}
 use Rattle.runs.specs.declared.Run.{Run}
@@ -31,7 +30,6 @@ use Rattle.step.specs.declared.Placing.the-variants as placing
 use Rattle.step.specs.declared.Stepped.{Stepped}
 use Rattle.step.specs.declared.Stepped.the-variants.{Done, Up, Damaged}
 use Rattle.step.specs.Step.{Kept, CanPut, PutMeets, InSetting, SteppedRight, UpTo16, CanRegroup, RegroupMeets, StepMeets}
-use Rattle.step.proofs.PutLaws.{level-at}
 use Rattle.step.proofs.RegroupEnds.{kept-same, kept-but-slot, front-kept}
 use Rattle.step.proofs.StepLaws.{can-splice, laid-by-splice, right-as-it-is, done-as-it-is, up-with-all}
 
@@ -43,7 +41,7 @@ kept-by-release {layout} {slot} {before} {after} below freed = record {
   past = freed .past (layout .slots) below;
 }
 
-kept-then : {layout : Layout} {before mid after : List ℕ} → Kept layout before mid → Kept layout mid after → Kept layout before after
+pub kept-then : {layout : Layout} {before mid after : List ℕ} → Kept layout before mid → Kept layout mid after → Kept layout before after
 kept-then p q = record { long = q .long ∙ p .long; head = q .head ∙ p .head; past = q .past ∙ p .past }
 
 -- the elements were spliced
@@ -63,9 +61,12 @@ module _ {layout : Layout} {slot place removed inserted count : ℕ} {before mid
   room-then = omega (arith, r .0, r .1 .room, slot-long layout before slot (can .fits) (can .slot-below))
 
   -- the part that the search is lent
-  pub can-search : (at : ℕ) → SlotOffset layout slot at → Counted (take (at + layout .width - at) (drop at mid)) count
-  can-search at o =
-      rw (lent-part (layout .width) slot at mid (o .is))
+  pub level-there : {part : List ℕ} → part ≡ slotPart (layout .width) mid slot → 0 < length part
+  level-there lent = rw lent (omega (arith, slot-long layout mid slot fits-then (can .slot-below), can .fits .within .width-from))
+
+  pub can-search : {part : List ℕ} → part ≡ slotPart (layout .width) mid slot → Counted part count
+  can-search lent =
+      rw lent
       (record { laid = omega (arith, room-then, slot-long layout mid slot fits-then (can .slot-below)); few = omega (arith, room-then, can .fits .within .width-to) })
 
   -- fewer than 16 have room in the scratch words
@@ -169,19 +170,19 @@ module _ {change : Change} {root : Bool} {slot place removed inserted count : �
         (laid-by-splice σ before way slot level code a old new b free place removed inserted scratch h p o n mid w (done .1) (done .2));
   }
 
-  module _ {at : ℕ} (o : SlotOffset (change .layout) slot at) where
+  module _ {part : List ℕ} (lent : part ≡ slotPart (change .layout .width) mid slot) where
     -- nor does a slot say a level above 16
-    pub never-too-high : 16 < getD mid at 0 → StepMeets change root slot place removed inserted before mid scratch scratch Damaged
-    never-too-high h = stepped (kept-same (change .layout) mid mid refl) tt refl (λ σ way level code es free i l. omega (arith, level-at (change .layout) mid slot at (fits-then can put) (can .slot-below) o, level-up-to i l))
+    pub never-too-high : 16 < getD part 0 0 → StepMeets change root slot place removed inserted before mid scratch scratch Damaged
+    never-too-high h = stepped (kept-same (change .layout) mid mid refl) tt refl (λ σ way level code es free i l. omega (arith, ap levelWord lent, level-up-to i l))
 
     -- what the search found, in each setting
     found : {σ : Setting} {way : List Frame} {level code : ℕ} {es : Placed} {free : List ℕ} (r : Run) → InSetting σ change root way → Laid σ mid way slot level code es free
-        → RunMeets (take (at + change .layout .width - at) (drop at mid)) count (getD mid at 0) (change .k) (change .code) r
+        → RunMeets part count (getD part 0 0) (change .k) (change .code) r
         → RunMeets (slotPart (widthIn σ) mid slot) (size (forestOf es)) level (σ .k) (σ .x) r
     found r i h =
-        found-in r (lent-part (change .layout .width) slot at mid (o .is) ∙ same-part i h) (sym (count-then can put) ∙ count-says i h) (level-at (change .layout) mid slot at (fits-then can put) (can .slot-below) o ∙ level-says i h) (i .k-is) (i .x-is)
+        found-in r (lent ∙ same-part i h) (sym (count-then can put) ∙ count-says i h) (ap levelWord lent ∙ level-says i h) (i .k-is) (i .x-is)
 
-    module _ (none : RunMeets (take (at + change .layout .width - at) (drop at mid)) count (getD mid at 0) (change .k) (change .code) Nothing) where
+    module _ (none : RunMeets part count (getD part 0 0) (change .k) (change .code) Nothing) where
       right-then : {σ : Setting} {way : List Frame} {level code : ℕ} {es : Placed} {free : List ℕ} → InSetting σ change root way → Laid σ mid way slot level code es free
           → LocallyRight (σ .k) level code (forestOf es)
       right-then {σ} {way} {level} {code} {es} {free} i h = right-as-it-is σ mid way slot level code es free h (found Nothing i h none (ascends i h))
@@ -203,7 +204,7 @@ module _ {change : Change} {root : Bool} {slot place removed inserted count : �
 
     -- a run: regrouping goes on with it
     pub formed-then : {after scratch′ : List ℕ} {j first n : ℕ} {r : Stepped}
-        → RunMeets (take (at + change .layout .width - at) (drop at mid)) count (getD mid at 0) (change .k) (change .code) (Formed j first n)
+        → RunMeets part count (getD part 0 0) (change .k) (change .code) (Formed j first n)
         → RegroupMeets change root slot j first n mid after scratch scratch′ r → StepMeets change root slot place removed inserted before after scratch scratch′ r
     formed-then {j = j} {first = first} {n = n} run u =
         stepped (u .kept) (u .bounds) (u .scratch-long)

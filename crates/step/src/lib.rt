@@ -12,6 +12,7 @@ use runs::Run;
 use runs::find_run;
 use store::sizes::Layout;
 use store::slots::offset;
+use store::slots::slot_part;
 use store::slots::wide;
 
 // Where the slots lie, k, and the code at which the set changes.
@@ -128,13 +129,12 @@ pub fn step(
     else {
         return Stepped::Damaged;
     };
-    let at = offset(layout, slot);
-    let width = layout.width;
-    let level = store[at];
+    let part = slot_part(store, layout, slot);
+    let level = part[0];
     if 16 < level {
         return Stepped::Damaged;
     }
-    match find_run(&store[at..at + width], count, level, change.k, change.code) {
+    match find_run(part, count, level, change.k, change.code) {
         Run::Nothing => {
             if root {
                 return Stepped::Done;

@@ -1,8 +1,8 @@
 -- The loop of `settle`: the change is pending in the block that the path names, in every setting in which it was so at the start.
-use Prim.Native.Nat.{ℕ, zero, suc, _+_, _-_, _*_, _≤_, _<_}
+use Prim.Native.Nat.{ℕ, zero, suc, _-_, _*_, _≤_, _<_}
 use native.Mathlib.Omega.{arith}
+use native.Mathlib.Decide.{decLt}
 use mathlib.Core.Path.{_≡_, refl, ap, subst, sym, _∙_}
-use mathlib.Core.Bool.{Bool, true, false}
 use mathlib.Core.List.{List, [], _∷_}
 use lib.Dec.{eqb}
 use lib.ListN.{length, getD, take}
@@ -10,7 +10,7 @@ use borrow.Author.Tests.{eqb-true, eqb-false}
 use Rattle.pktree.specs.Elements.{size}
 use Rattle.store.specs.declared.sizes.Layout.{Layout}
 use Rattle.store.specs.Layout.{LayoutFits}
-use Rattle.store.specs.Placed.{Placed, nothing, blockThen, forestOf, _⧻_}
+use Rattle.store.specs.Placed.{nothing, blockThen, forestOf, _⧻_}
 use Rattle.store.proofs.PlacedJoin.{size-placed-join}
 use Rattle.descent.specs.Way.{Frame}
 use Rattle.descent.specs.Located.{PathNames}
@@ -19,7 +19,7 @@ use Rattle.change.proofs.Settled.{Settled}
 use Rattle.step.specs.declared.Change.{Change}
 use Rattle.step.specs.declared.Stepped.{Stepped}
 use Rattle.step.specs.declared.Stepped.the-variants.{Done, Up, Damaged}
-use Rattle.step.specs.Step.{Kept, InSetting, PendingAbove, SteppedRight, StepMeets}
+use Rattle.step.specs.Step.{Kept, InSetting, SteppedRight, StepMeets}
 use Rattle.update.specs.Settle.{PendingAt, OfChange}
 
 -- what holds at each turn, on any words
@@ -39,9 +39,6 @@ Carried change path places before depth₀ slot₀ place₀ out₀ coming₀ wor
     (σ : Setting) → OfChange σ change → PendingAt σ before path places depth₀ slot₀ place₀ out₀ coming₀ (change .code ∷ 0 ∷ [])
     → PendingAt σ words path places depth slot place out coming scratch
 
-pub kept-then : (layout : Layout) (a b c : List ℕ) → Kept layout a b → Kept layout b c → Kept layout a c
-kept-then layout a b c p q = record { long = q .long ∙ p .long; head = q .head ∙ p .head; past = q .past ∙ p .past }
-
 pub fits-kept : (layout : Layout) (a b : List ℕ) → Kept layout a b → LayoutFits layout a → LayoutFits layout b
 fits-kept layout a b k f = record { within = f .within; lies = omega (arith, k .long, f .lies) }
 
@@ -58,6 +55,11 @@ in-setting σ change depth way o e =
     none : (w : List Frame) → length w ≡ 0 → w ≡ []
     none [] n = refl
     none (f ∷ w) n = absurd (omega arith)
+
+-- a place in a block of a register is far below what a slot can hold
+place-small : (σ : Setting) (words path places : List ℕ) (depth slot place out coming : ℕ) (scratch : List ℕ) → PendingAt σ words path places depth slot place out coming scratch → place ≤ 75
+place-small σ words path places depth slot place out coming scratch p =
+    omega (arith, p .place-is, p .pending .was-fit, σ .k-to, size-placed-join (p .a) (p .old ⧻ p .b))
 
 module _ (change : Change) (path places words scratch after scratch′ : List ℕ) (depth slot place out coming : ℕ) (r : Stepped)
     (m : StepMeets change (eqb depth 0) slot place out coming words after scratch scratch′ r) where
@@ -77,7 +79,7 @@ module _ (change : Change) (path places words scratch after scratch′ : List �
       → SteppedRight σ after scratch′ (p .way) slot (Up n)
   above n e σ o p = subst (SteppedRight σ after scratch′ (p .way) slot) e (stepped σ o p)
 
-  pub never-above-root : (n : ℕ) → r ≡ Up n → depth ≡ 0 → (σ : Setting) → OfChange σ change → PendingAt σ words path places depth slot place out coming scratch → ⊥
+  never-above-root : (n : ℕ) → r ≡ Up n → depth ≡ 0 → (σ : Setting) → OfChange σ change → PendingAt σ words path places depth slot place out coming scratch → ⊥
   never-above-root n e z σ o p = go (p .way) (sym (p .depth-is) ∙ z) (above n e σ o p)
     where
       go : (w : List Frame) → length w ≡ 0 → SteppedRight σ after scratch′ w slot (Up n) → ⊥
@@ -114,10 +116,14 @@ module _ (change : Change) (path places words scratch after scratch′ : List �
             pending = subst (λ (t : ℕ). Pending σ after w t (f .level) (f .code) (f .before) (blockThen slot (s .level) (s .code) nothing nothing) (s .left) (f .after) (s .free)) (sym es) (s .pending);
           }
 
--- a place in a block of a register is far below what a slot can hold
-pub place-small : (σ : Setting) (words path places : List ℕ) (depth slot place out coming : ℕ) (scratch : List ℕ) → PendingAt σ words path places depth slot place out coming scratch → place ≤ 75
-place-small σ words path places depth slot place out coming scratch p =
-    omega (arith, p .place-is, p .pending .was-fit, σ .k-to, size-placed-join (p .a) (p .old ⧻ p .b))
+  -- so the path names the block around
+  pub never-unnamed : (n : ℕ) → r ≡ Up n → (0 < depth → 75 < getD places (depth - 1) 0) → (σ : Setting) → OfChange σ change
+      → PendingAt σ words path places depth slot place out coming scratch → ⊥
+  never-unnamed n e none σ o p = go (decLt 0 depth)
+    where
+      go : Dec (0 < depth) → ⊥
+      go (yes pos) = omega (arith, none pos, place-small σ after path places _ _ _ _ _ _ (climbs n e σ o p pos))
+      go (no z) = never-above-root n e (omega arith) σ o p
 
 -- the scratch words at the start have the pixel
 pub begins : (σ : Setting) (words path places : List ℕ) (depth slot place out coming : ℕ) (scratch scratch′ : List ℕ) → coming ≤ 1 → take 2 scratch ≡ take 2 scratch′

@@ -1,7 +1,7 @@
 -- What mark and clear answer, and what they leave, where refusals 3 and 4 do not apply.
 use Prim.Native.Nat.{ℕ, _≤_, _<_}
 use mathlib.Core.Path.{_≡_}
-use mathlib.Core.Bool.{Bool, true, false}
+use mathlib.Core.Bool.{true, false}
 use mathlib.Core.List.{List}
 use lib.ListN.{length, getD, drop}
 use Rattle.pktree.specs.PixelSet.{member, added, removed}

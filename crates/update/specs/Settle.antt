@@ -1,5 +1,5 @@
 -- The way up: a change that is pending in the block at the end of a path comes to rest.
-use Prim.Native.Nat.{ℕ, _+_, _*_, _≤_, _<_}
+use Prim.Native.Nat.{ℕ, _-_, _*_, _≤_, _<_}
 use mathlib.Core.Path.{_≡_}
 use mathlib.Core.Bool.{Bool, true}
 use mathlib.Core.List.{List, [], _∷_}
@@ -15,6 +15,14 @@ use Rattle.change.proofs.Pending.{Setting, Pending}
 use Rattle.change.proofs.Settled.{Settled}
 use Rattle.step.specs.declared.Change.{Change}
 use Rattle.step.specs.Step.{Kept}
+use Rattle.update.specs.declared.settle.Around.{Around}
+use Rattle.update.specs.declared.settle.Around.the-variants.{Block, Nothing}
+
+-- the block around the one at this depth, as the path names it
+abbrev pub AroundIs : Located → ℕ → Around → Type 0
+AroundIs located depth (Block slot place) =
+    (0 < depth) × (slot ≡ getD (located .slots) (depth - 1) 0) × (place ≡ getD (located .places) (depth - 1) 0) × (place ≤ 75)
+AroundIs located depth Nothing = 0 < depth → 75 < getD (located .places) (depth - 1) 0
 
 pub record CanSettle (change : Change) (words : List ℕ) (located : Located) (removed inserted : ℕ) : Type 0 where
   pub fits : LayoutFits (change .layout) words

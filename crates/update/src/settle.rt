@@ -1,10 +1,33 @@
 ghost use Prim.Native.Nat.{_≤_};
-ghost use Rattle.update.specs.Settle.{CanSettle, SettleMeets};
+ghost use Rattle.update.specs.Settle.{AroundIs, CanSettle, SettleMeets};
 use descent::Located;
 use step::Change;
 use step::Stepped;
 use step::step;
 use store::slots::wide;
+
+pub enum Around {
+    Block(usize, usize),
+    Nothing,
+}
+
+// The block around the one at this depth of the path: its slot, and the place of the element that was entered there.
+// Nothing is around the root, or where the path names a place that no slot has.
+fn block_around(located: Located, depth: usize) -> Around
+    requires { ⌜ depth ≤ 16 ⌝ }
+    ensures { λ r. ⌜ AroundIs located depth r ⌝ }
+{
+    if depth == 0 {
+        return Around::Nothing;
+    }
+    let slots = located.slots;
+    let places = located.places;
+    let place = wide(places[depth - 1]);
+    if 75 < place {
+        return Around::Nothing;
+    }
+    Around::Block(wide(slots[depth - 1]), place)
+}
 
 // The change goes up the path, block by block, until it is at rest: true; false where the words cannot be a register's.
 pub fn settle(
@@ -17,8 +40,6 @@ pub fn settle(
     requires { ⌜ CanSettle change (now store) located removed inserted ⌝ }
     ensures { λ r. ⌜ SettleMeets change located removed inserted (now (store .entry)) (now (store .exit)) r ⌝ }
 {
-    let path = located.slots;
-    let places = located.places;
     let mut scratch = [0u32; 32];
     scratch[0] = change.code;
     let mut depth = located.depth;
@@ -27,16 +48,8 @@ pub fn settle(
     let mut out = removed;
     let mut coming = inserted;
     loop {
-        match step(
-            store,
-            change,
-            depth == 0,
-            slot,
-            place,
-            out,
-            &mut scratch,
-            coming,
-        ) {
+        let root = depth == 0;
+        match step(store, change, root, slot, place, out, &mut scratch, coming) {
             Stepped::Done => {
                 return true;
             }
@@ -44,15 +57,12 @@ pub fn settle(
                 return false;
             }
             Stepped::Up(count) => {
-                if depth == 0 {
+                let Around::Block(around, entered) = block_around(located, depth) else {
                     return false;
-                }
+                };
                 depth -= 1;
-                slot = wide(path[depth]);
-                place = wide(places[depth]);
-                if 75 < place {
-                    return false;
-                }
+                slot = around;
+                place = entered;
                 out = 1;
                 coming = count;
             }

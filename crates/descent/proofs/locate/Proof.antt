@@ -2,15 +2,18 @@
 use Prim.Native.Nat.{ℕ}
 use native.Mathlib.Omega.{arith}
 use mathlib.Core.Path.{_≡_, refl, subst₂}
+use mathlib.Core.Bool.{Bool}
 use mathlib.Core.List.{List}
 use borrow.Author.Needs.{needs}
+use borrow.Author.Tests.{not-true, not-false}
 use Rattle.store.specs.Slot.{slotPart}
 use Rattle.store.specs.Opening.{HeaderSays, Opened}
 use Rattle.store.specs.declared.opening.Opening.{Opening}
 use Rattle.descent.specs.declared.Ahead.{Ahead}
+use Rattle.descent.specs.Located.{CanEnter}
 use Rattle.descent.specs.Looked.{Looked, InnerBlock}
 use Rattle.store.proofs.Usable.{slot-long}
-use Rattle.descent.proofs.Descending.{Descended, at-root, stopped, never-at-pixel, never-closed, few-elements, found-here, never-rises, never-outside, steps-down}
+use Rattle.descent.proofs.Descending.{Descended, at-root, stopped, never-at-pixel, never-closed, few-elements, found-here, never-barred, steps-down}
 use Rattle.descent.proofs.locate.Statement.{statement}
 use Rattle.descent.proofs.locate.Tie as tie
 
@@ -73,47 +76,49 @@ look-requires c κs =
 
 returns-2 : tie.Need-returns-2 Inv-loop μ-loop
 returns-2 c =
-    let opened = c .before .before .before .before in
+    let e = c .before in
+    let opened = e .before .before .before .before in
     let turn = opened .before .before .before .before .before .before .before in
-    found-here (turn .before .before .pre .0) (turn .loop .inv) (header opened) (c .before .place .given .0 .0) (c .before .place .given .0 .1 .0)
+    rw (c .found-at .ensures)
+    (found-here (turn .before .before .pre .0) (turn .loop .inv) (header opened) (e .before .place .given .0 .0) (e .before .place .given .0 .1 .0)
     (opened .before .before .before .before .before .before .loop-test .taken)
     (subst₂ (λ (p : List ℕ) (r : Ahead). Looked p (opened .before .count .given .0 .0) (turn .before .before .args .code) r)
-    (part-is (opened .before .before .before .before)) (c .before .place .given .1) (c .before .before .before .look .ensures))
+    (part-is (opened .before .before .before .before)) (e .before .place .given .1) (e .before .before .before .look .ensures)))
+
+-- what the test of the inner block says
+entering : (c : tie.After-can-enter Inv-loop μ-loop) {r : Bool} → c .can-enter .result ≡ r
+    → let opened = c .before .before .before .before .before in
+    let turn = opened .before .before .before .before .before .before .before in
+    CanEnter (turn .before .before .args .layout) (turn .loop .level) (c .before .before .place2 .given .0 .1 .0) (c .before .before .place2 .given .0 .1 .1 .0) r
+entering c e = rw e at (c .can-enter .ensures)
 
 returns-3 : tie.Need-returns-3 Inv-loop μ-loop
 returns-3 c =
-    let entered = c .before .before in
+    let entered = c .before .before .before in
     let opened = entered .before .before .before .before in
     let turn = opened .before .before .before .before .before .before .before in
     stopped (c .damaged-at2 .ensures)
-    (never-rises (turn .before .before .pre .0) (turn .loop .inv) (header opened) (inner entered) (c .before .if1 .taken))
-
-returns-4 : tie.Need-returns-4 Inv-loop μ-loop
-returns-4 c =
-    let entered = c .before .before .before .before .before in
-    let opened = entered .before .before .before .before in
-    let turn = opened .before .before .before .before .before .before .before in
-    stopped (c .damaged-at3 .ensures)
-    (never-outside (turn .before .before .pre .0) (turn .loop .inv) (header opened) (inner entered) (omega (arith, c .before .if2 .taken, c .before .before .before .wide2 .ensures)))
+    (never-barred (turn .before .before .pre .0) (turn .loop .inv) (header opened) (inner entered) (entering (c .before .before) (not-true (c .before .before .can-enter .result) (c .before .if1 .taken))))
 
 cast-places : tie.Need-cast-places Inv-loop μ-loop
 cast-places c =
-    let entered = c .before .before .before .before in
+    let entered = c .before .before in
     let opened = entered .before .before .before .before in
     let turn = opened .before .before .before .before .before .before .before in
     omega (arith, inner entered .within, few-elements (turn .before .before .pre .0) (turn .loop .inv) (header opened))
 
 loop-again : tie.Need-loop-again Inv-loop μ-loop
 loop-again c =
-    let entered = c .before .before .before .before in
+    let entered = c .before .before in
     let opened = entered .before .before .before .before in
     let turn = opened .before .before .before .before .before .before .before in
-    steps-down (turn .before .before .pre .0) (turn .loop .inv) (header opened) (inner entered) (turn .before .before .pre .1) (c .before .before .before .if1 .left) (omega (arith, c .if2 .left, c .before .before .wide2 .ensures))
+    let lower = entering (c .before) (not-false (c .before .can-enter .result) (c .if1 .left)) in
+    steps-down (turn .before .before .pre .0) (turn .loop .inv) (header opened) (inner entered) (turn .before .before .pre .1) (lower .0) (lower .1)
 
-returns-5 : tie.Need-returns-5 Inv-loop μ-loop
-returns-5 c =
+returns-4 : tie.Need-returns-4 Inv-loop μ-loop
+returns-4 c =
     let turn = c .before .before in
-    stopped (c .damaged-at4 .ensures) (never-at-pixel (turn .before .before .pre .0) (turn .loop .inv) (c .before .loop-test .left))
+    stopped (c .damaged-at3 .ensures) (never-at-pixel (turn .before .before .pre .0) (turn .loop .inv) (c .before .loop-test .left))
 
 pub locate-spec : {M : Type 1} → statement M
 locate-spec =
@@ -131,20 +136,19 @@ locate-spec =
     returns
     look-requires
     (λ c. search needs)
+    (λ c κs. search needs)
     returns-2
     (λ c. search needs)
     (λ c κs. search needs)
+    (λ c κs. search needs)
     returns-3
-    (λ c κs. search needs)
-    (λ c κs. search needs)
-    returns-4
     (λ c. search needs)
     (λ c. search needs)
     cast-places
     (λ c. search needs)
     (λ c. search needs)
     (λ c. search needs)
-    (λ c. search needs)
+    (λ c. let lower = entering (c .before) (not-false (c .before .can-enter .result) (c .if1 .left)) in lower .0)
     loop-again
     (λ c κs. search needs)
-    returns-5)
+    returns-4)

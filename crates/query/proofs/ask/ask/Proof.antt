@@ -1,8 +1,6 @@
 -- `query::ask::ask` meets its contract: what `locate` ensures is the answer.
-use Prim.Native.Nat.{ℕ, _≤_}
 use native.Mathlib.Omega.{arith}
-use mathlib.Core.Path.{_≡_, ap, subst, sym}
-use borrow.Author.Needs.{needs}
+use mathlib.Core.Path.{subst, sym}
 use Rattle.store.specs.declared.sizes.Sizes.{Sizes}
 use Rattle.store.specs.Sizes.{ValidSizes}
 use Rattle.store.proofs.Usable.{layout-fits}
