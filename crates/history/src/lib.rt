@@ -6,8 +6,6 @@ ghost use Rattle.history.specs.Survivors.{list, save, load};
 ghost use Rattle.history.specs.Run.{Step, Run};
 ghost use Rattle.history.specs.Script.{zeros, callOf, encodedAt, callsOf};
 ghost use Rattle.history.specs.Whole.{RunMeets, SampleRan};
-ghost use Rattle.register.specs.Answer.{answer};
-use register::Outcome;
 use store::slots::wide;
 
 // A call as words: its number and its arguments.
@@ -121,21 +119,11 @@ pub fn replay(store: &mut [u32], script: &[u32], images: &[u8])
     }
 }
 
-// 01's number of an outcome, 0 where the call was accepted.
-pub fn refusal_of(outcome: Outcome) -> u32
-    ensures { λ r. ⌜ r ≡ answer outcome .refusal ⌝ }
-{
-    match outcome {
-        Outcome::Done => 0,
-        Outcome::Refused(number) => number,
-    }
-}
-
 // make, then a script: a whole history. It answers make's number.
 pub fn run(store: &mut [u32], m: u32, k: u32, n: u32, script: &[u32], images: &[u8]) -> u32
     ensures { λ r. ⌜ RunMeets (now (store .entry)) (now (store .exit)) m k n (now (script .entry)) (now (images .entry)) r ⌝ }
 {
-    let number = refusal_of(register::make(store, m, k, n));
+    let number = register::refusal_of(register::make(store, m, k, n));
     if number == 0 {
         replay(store, script, images);
     }

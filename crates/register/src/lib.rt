@@ -1,4 +1,6 @@
 // The register of unfit pixels: the calls that are open to users. None has a requires; each has one ensures, which names one record.
+ghost use mathlib.Core.Path.{_≡_};
+ghost use Rattle.register.specs.Answer.{answer};
 ghost use Rattle.register.specs.Make.{MakeMeets};
 ghost use Rattle.register.specs.Mark.{MarkMeets};
 ghost use Rattle.register.specs.Clear.{ClearMeets};
@@ -34,6 +36,16 @@ use update::marks::Marking;
 pub enum Outcome {
     Done,
     Refused(u32),
+}
+
+// 01's number of an outcome, 0 where the call was accepted.
+pub fn refusal_of(outcome: Outcome) -> u32
+    ensures { λ r. ⌜ r ≡ answer outcome .refusal ⌝ }
+{
+    match outcome {
+        Outcome::Done => 0,
+        Outcome::Refused(number) => number,
+    }
 }
 
 // 01: an empty, sound register of order m, with this k, for at most n pixels (01's N).
