@@ -6,6 +6,7 @@ ghost use Rattle.history.specs.Survivors.{list, save, load};
 ghost use Rattle.history.specs.Run.{Step, Run};
 ghost use Rattle.history.specs.Script.{zeros, callOf, encodedAt, callsOf};
 ghost use Rattle.history.specs.Whole.{RunMeets, SampleRan};
+use image::parts::part_of;
 use store::slots::wide;
 
 // A call as words: its number and its arguments.
@@ -34,19 +35,6 @@ pub fn save_step(store: &[u32], e: u32)
     let mut output = [0u8; 256];
     let n = wide(e % 257);
     register::save(store, &mut output[..n]);
-}
-
-// So many bytes from this place on, or as many as there are.
-pub fn part_of(bytes: &[u8], from: usize, number: usize) -> &[u8]
-    ensures { λ r. ⌜ now r ≡ take number (drop from (now (bytes .entry))) ⌝ }
-{
-    if bytes.len() <= from {
-        return &bytes[..0];
-    }
-    if bytes.len() - from <= number {
-        return &bytes[from..];
-    }
-    &bytes[from..from + number]
 }
 
 // load, with a part of the bytes beside the script.

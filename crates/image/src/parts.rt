@@ -1,6 +1,6 @@
 ghost use Prim.Native.Nat.{_+_, _*_, _≤_, _<_};
 ghost use mathlib.Core.Path.{_≡_};
-ghost use lib.ListN.{length, getD};
+ghost use lib.ListN.{length, getD, take, drop};
 ghost use Rattle.store.specs.Decides.{Decides};
 ghost use Rattle.image.specs.Parts.{fourAt, entryNumber, pixelNumber, codesPart, levelsPart};
 ghost use Rattle.image.specs.Judged.{WellFormed};
@@ -75,4 +75,17 @@ pub fn code_at(codes: &[u8], at: usize) -> u32
     ensures { λ r. ⌜ r ≡ fourAt (now (codes .entry)) (4 * at) ⌝ }
 {
     four_at(codes, 4 * at)
+}
+
+// So many bytes from this place on, or as many as there are.
+pub fn part_of(bytes: &[u8], from: usize, number: usize) -> &[u8]
+    ensures { λ r. ⌜ now r ≡ take number (drop from (now (bytes .entry))) ⌝ }
+{
+    if bytes.len() <= from {
+        return &bytes[..0];
+    }
+    if bytes.len() - from <= number {
+        return &bytes[from..];
+    }
+    &bytes[from..from + number]
 }

@@ -4,8 +4,8 @@ use mathlib.Core.Path.{_≡_, ap, sym, _∙_}
 use lib.ListN.{length, take, drop, length-drop, drop-of-length-le}
 use lib.Seq.{take-all, take-nil}
 use borrow.Author.Needs.{needs}
-use Rattle.history.proofs.part_of.Statement.{statement}
-use Rattle.history.proofs.part_of.Tie as tie
+use Rattle.image.proofs.parts.part_of.Statement.{statement}
+use Rattle.image.proofs.parts.part_of.Tie as tie
 
 returns : tie.Need-returns
 returns c =
