@@ -5,4 +5,4 @@ pub mod FramesOfSound
 pub mod RunLaw
 pub mod Pending
 pub mod HandUp
-pub mod Settled
+pub mod Completed

@@ -19,7 +19,7 @@ use Rattle.rewrite.specs.declared.Forming.the-variants.{Formed, NoSlot}
 use Rattle.rewrite.specs.Rewrite.{HandedUpBlock, BlockFormed, FormMeets}
 use Rattle.change.proofs.RunLaw.{FormedAt}
 use Rattle.change.proofs.Pending.{Setting, Laid}
-use Rattle.change.proofs.Settled.{Settled}
+use Rattle.change.proofs.Completed.{Completed}
 use Rattle.step.specs.declared.Stepped.the-variants.{Done, Up, Damaged}
 use Rattle.step.specs.Step.{Kept, SteppedRight}
 use Rattle.step.proofs.StepLaws.{up-with-block, formed-size, never-without-slot, at-rest-with-block}
@@ -61,7 +61,7 @@ module _ (σ : Setting) (layout : Layout) (before after : List ℕ) (way : List 
       root (f ∷ w) e r = zero-is-not-one (cc)
   enough-left (inr e) t = inr (omega (arith, formed-size σ before way slot outer code es free h j first n g t))
 
-  pub regrouped-done : LayoutFits layout before → (way ≡ []) ⊎ (σ .k + n ≤ size (forestOf es) + 1) → BlockFormed layout slot j d first n (getD before 7 0) before after → Settled σ after
+  pub regrouped-done : LayoutFits layout before → (way ≡ []) ⊎ (σ .k + n ≤ size (forestOf es) + 1) → BlockFormed layout slot j d first n (getD before 7 0) before after → Completed σ after
   regrouped-done fits enough u =
       at-rest-with-block σ before way slot outer code es free h j first n g (getD before 7 0) after (subst (λ (l : Layout). LayoutFits l before) layout-is fits)
       (enough-left enough (getD before 7 0))

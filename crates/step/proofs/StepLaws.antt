@@ -36,7 +36,7 @@ use Rattle.change.proofs.SlotCounts.{waySlots, shared-moves}
 use Rattle.change.proofs.RunLaw.{FormedAt, no-run}
 use Rattle.change.proofs.Pending.{Setting, widthIn, slotsIn, Around, Pending, Laid, slot-below, way-elsewhere, elements-elsewhere, free-elsewhere, around-kept}
 use Rattle.change.proofs.HandUp.{LeftOver, handed-up, plug-pixels}
-use Rattle.change.proofs.Settled.{Settled, AtRest, settled, slot-for-block}
+use Rattle.change.proofs.Completed.{Completed, AtRest, completed, slot-for-block}
 use Rattle.step.specs.Step.{PendingAbove}
 use Rattle.step.proofs.PlacedWords.{spliced-words, middle-words, block-words}
 
@@ -102,10 +102,10 @@ module _ (σ : Setting) (words : List ℕ) (way : List Frame) (s level code : �
       (no-run (σ .k) (quarterLevel level) code (σ .x) (slotPart (widthIn σ) words s) es (σ .k-from)
       (subst (λ (l : ℕ). SlotSays (slotPart (widthIn σ) words s) l code es) e (h .says)) (around .disturbed) (λ i p. few i (omega arith)))
 
-  pub done-as-it-is : LocallyRight (σ .k) level code (forestOf es) → (level ≡ σ .m) ⊎ (σ .k ≤ size (forestOf es)) → Settled σ words
+  pub done-as-it-is : LocallyRight (σ .k) level code (forestOf es) → (level ≡ σ .m) ⊎ (σ .k ≤ size (forestOf es)) → Completed σ words
   done-as-it-is right enough =
       let x = holds-x σ words way s level code es free around in
-      settled σ words way s level code es free
+      completed σ words way s level code es free
       (record {
         frames-right = around .frames-right;
         frames-stand = around .frames-stand;
@@ -302,7 +302,7 @@ module _ (σ : Setting) (words : List ℕ) (way : List Frame) (s level code : �
 
   -- the block stands in the first free slot, and the change is at rest
   pub at-rest-with-block : (fresh : ℕ) (after : List ℕ) → LayoutFits (σ .layout) words → (level ≡ σ .m) ⊎ (σ .k ≤ size (forestOf (formedAs fresh)))
-      → BlockFormed (σ .layout) s j (blockCode j (σ .x)) first n fresh words after → Settled σ after
+      → BlockFormed (σ .layout) s j (blockCode j (σ .x)) first n fresh words after → Completed σ after
   at-rest-with-block fresh after fits enough u =
       let o = h .around in
       let x = holds-x σ words way s level code es free o in
@@ -313,9 +313,9 @@ module _ (σ : Setting) (words : List ℕ) (way : List Frame) (s level code : �
       finish : (fresh : ℕ) (after rest : List ℕ) → free ≡ fresh ∷ rest → FreeSlots (widthIn σ) (set words 7 (nextWord (slotPart (widthIn σ) words fresh))) rest
           → HeadWritten (widthIn σ) 7 (nextWord (slotPart (widthIn σ) words fresh)) words (set words 7 (nextWord (slotPart (widthIn σ) words fresh)))
           → Around σ words way s level code es free → (code ≤ σ .x) × (σ .x < code + 4 ^ level) → (level ≡ σ .m) ⊎ (σ .k ≤ size (forestOf (formedAs fresh)))
-          → BlockFormed (σ .layout) s j (blockCode j (σ .x)) first n fresh words after → fresh < 1048576 → Settled σ after
+          → BlockFormed (σ .layout) s j (blockCode j (σ .x)) first n fresh words after → fresh < 1048576 → Completed σ after
       finish fresh after rest e chain written o x enough u small =
-          settled σ after way s level code (formedAs fresh) rest
+          completed σ after way s level code (formedAs fresh) rest
           (record {
             frames-right = o .frames-right;
             frames-stand = frames-kept (widthIn σ) words after way s level code (same (waySlots way) (way-elsewhere σ words way s level code es free o) (absent fresh (waySlots way) (omega (arith, once)))) (o .frames-stand);

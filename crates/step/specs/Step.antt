@@ -15,7 +15,7 @@ use Rattle.descent.specs.Way.{Frame}
 use Rattle.rewrite.specs.Rewrite.{SplicedSlot}
 use Rattle.change.proofs.Pending.{Setting, Pending, Laid}
 use Rattle.change.proofs.RunLaw.{FormedAt}
-use Rattle.change.proofs.Settled.{Settled}
+use Rattle.change.proofs.Completed.{Completed}
 use Rattle.step.specs.declared.Change.{Change}
 use Rattle.step.specs.declared.Placing.{Placing}
 use Rattle.step.specs.declared.Placing.the-variants as placing
@@ -63,7 +63,7 @@ pub record PendingAbove (σ : Setting) (words scratch : List ℕ) (f : Frame) (w
   pub scratch-is : take (2 * n) scratch ≡ elementWords left
 
 abbrev pub SteppedRight : Setting → List ℕ → List ℕ → List Frame → ℕ → Stepped → Type 0
-SteppedRight σ words scratch way slot Done = Settled σ words
+SteppedRight σ words scratch way slot Done = Completed σ words
 SteppedRight σ words scratch [] slot (Up n) = ⊥
 SteppedRight σ words scratch (f ∷ way) slot (Up n) = PendingAbove σ words scratch f way slot n
 SteppedRight σ words scratch way slot Damaged = ⊥

@@ -29,7 +29,7 @@ use Rattle.change.proofs.FramesOfSound.{OnWay, on-way}
 use Rattle.change.proofs.SlotCounts.{waySlots, plug-slots, shared-moves}
 use Rattle.change.proofs.HandUp.{right-size}
 use Rattle.change.proofs.Pending.{Setting}
-use Rattle.update.specs.Settle.{PendingAt}
+use Rattle.update.specs.Propagate.{PendingAt}
 
 module _ (k c x : ℕ) (h : 2 ≤ k) (above : c ≤ x) where
   -- elements that are right are right but perhaps around x

@@ -27,7 +27,7 @@ use Rattle.store.proofs.Standing.{SlotSays, depth-below-level, complete-slot, f
 use Rattle.store.proofs.SlotWrites.{take-less, word-in-front, head-word-set}
 use Rattle.store.proofs.FreeChains.{every-of-all, free-kept}
 use Rattle.store.proofs.Usable.{sizes-kept, usable-kept, layout-fits}
-use Rattle.change.proofs.Settled.{Settled}
+use Rattle.change.proofs.Completed.{Completed}
 use Rattle.descent.specs.declared.Located.{Located}
 use Rattle.descent.specs.Located.{LocatedIn, LocateMeets}
 use Rattle.descent.proofs.OpenedByPixel.{marked-exactly}
@@ -36,7 +36,7 @@ use Rattle.update.specs.declared.marks.Marking.the-variants as marking
 use Rattle.update.specs.declared.marks.Clearing.the-variants as clearing
 use Rattle.update.specs.Changed.{MarkAnswer, ClearAnswer}
 use Rattle.step.specs.Step.{Kept}
-use Rattle.update.specs.Settle.{CanSettle, SettleMeets}
+use Rattle.update.specs.Propagate.{CanPropagate, PropagateMeets}
 use Rattle.update.proofs.ChangeBegins.{settingOf, Begins, mark-begins, clear-begins}
 
 -- what a store holds is a set of pixels
@@ -62,7 +62,7 @@ module _ (before mid : List ℕ) (usable : UsableStore before) (code : ℕ) (tar
   usable-after = usable-kept before after front (length-set mid 6 (length target) ∙ kept .long) usable
 
   -- the slots and the chain stand as they stood before the count was written
-  module _ (h : Settled (settingOf before usable code target few) mid) where
+  module _ (h : Completed (settingOf before usable code target few) mid) where
     abbrev placed : Placed
     placed = blockThen 0 (getD before 1 0) 0 (h .es) nothing
 
@@ -190,8 +190,8 @@ module _ {before : List ℕ} {sizes : Sizes} {layout : Layout} {code : ℕ} {loc
     change = record { layout = layout; k = k; code = code }
 
     -- the numbers are in bounds
-    pub can-settle : {removed inserted : ℕ} → located .damaged ≡ false → removed ≤ 1 → inserted ≤ 1 → CanSettle change before located removed inserted
-    can-settle whole r i =
+    pub can-propagate : {removed inserted : ℕ} → located .damaged ≡ false → removed ≤ 1 → inserted ≤ 1 → CanPropagate change before located removed inserted
+    can-propagate whole r i =
         let b = u .meets .bounds whole in
         let v = u .usable .valid .panel in
         let e : k ≡ getD before 2 0 = k-is ∙ ap (λ (z : Sizes). z .k) (u .sizes-are) in
@@ -207,32 +207,32 @@ module _ {before : List ℕ} {sizes : Sizes} {layout : Layout} {code : ℕ} {loc
           inserted-to = i;
         }
 
-    -- what settling leaves of a change that began, with the count of the set to come
-    settled-end : (old new : Placed) {mid : List ℕ} {r : Bool} (was : List ℕ) (h : Holds before was) → SettleMeets change located (size (forestOf old)) (size (forestOf new)) before mid r
+    -- what propagating leaves of a change that began, with the count of the set to come
+    completed-end : (old new : Placed) {mid : List ℕ} {r : Bool} (was : List ℕ) (h : Holds before was) → PropagateMeets change located (size (forestOf old)) (size (forestOf new)) before mid r
         → (b : Begins before (h .sound .usable) (pixels (forestOf (h .placed))) code located old new) → (count : ℕ) → count ≡ length (b .left ++ (pixels (forestOf new) ++ b .right))
         → (r ≡ true) × Holds (set mid 6 count) (b .left ++ (pixels (forestOf new) ++ b .right)) × (sizesOf (set mid 6 count) ≡ sizesOf before)
-    settled-end old new {mid} was h s b count n =
+    completed-end old new {mid} was h s b count n =
         let target : List ℕ = b .left ++ (pixels (forestOf new) ++ b .right) in
         let kept : Kept (layoutOf (sizesOf before)) before mid = subst (λ (z : Layout). Kept z before mid) layout-is (s .kept) in
         let (told, rest) = s .right (settingOf before (h .sound .usable) code target (b .few))
         (record { layout-is = layout-is; k-is = k-is ∙ ap (λ (z : Sizes). z .k) (u .sizes-are); x-is = refl }) (b .pending) in
         rw n (told, holds-target before mid (h .sound .usable) code target (b .few) kept rest, sizes-stay before mid (h .sound .usable) code target (b .few) kept)
 
-    mark-settles : {mid : List ℕ} {r : Bool} → SettleMeets change located 0 1 before mid r → located .marked ≡ false → getD before 6 0 < sizes .most → (was : List ℕ) → Holds before was
+    mark-propagates : {mid : List ℕ} {r : Bool} → PropagateMeets change located 0 1 before mid r → located .marked ≡ false → getD before 6 0 < sizes .most → (was : List ℕ) → Holds before was
         → (r ≡ true) × Holds (set mid 6 (getD before 6 0 + 1)) (added code was) × (sizesOf (set mid 6 (getD before 6 0 + 1)) ≡ sizesOf before)
-    mark-settles {mid} s out room was h =
+    mark-propagates {mid} s out room was h =
         let b = mark-begins before (h .placed) (h .sound) code located (found was h .1) out (omega (arith, h .sound .counted, most-is)) in
-        let (told, holds, same) = settled-end nothing (pixelThen code nothing) was h s b (getD before 6 0 + 1)
+        let (told, holds, same) = completed-end nothing (pixelThen code nothing) was h s b (getD before 6 0 + 1)
         (omega (arith, h .sound .counted, ap length (b .set-was), length-append (b .left) (b .right), length-append (b .left) (code ∷ b .right))) in
         let set-is : b .left ++ (code ∷ b .right) ≡ added code was =
         sym (added-at-place code 0 (b .left) (b .right) (held-is-set _ _ holds .ascending)) ∙ ap (added code) (sym (b .set-was) ∙ h .set-is) in
         (told, subst (Holds (set mid 6 (getD before 6 0 + 1))) set-is holds, same)
 
-    clear-settles : {mid : List ℕ} {r : Bool} → SettleMeets change located 1 0 before mid r → located .marked ≡ true → (was : List ℕ) → Holds before was
+    clear-propagates : {mid : List ℕ} {r : Bool} → PropagateMeets change located 1 0 before mid r → located .marked ≡ true → (was : List ℕ) → Holds before was
         → (r ≡ true) × Holds (set mid 6 (getD before 6 0 - 1)) (removed code was) × (sizesOf (set mid 6 (getD before 6 0 - 1)) ≡ sizesOf before)
-    clear-settles {mid} s e was h =
+    clear-propagates {mid} s e was h =
         let b = clear-begins before (h .placed) (h .sound) code located (found was h .1) e in
-        let (told, holds, same) = settled-end (pixelThen code nothing) nothing was h s b (getD before 6 0 - 1)
+        let (told, holds, same) = completed-end (pixelThen code nothing) nothing was h s b (getD before 6 0 - 1)
         (omega (arith, h .sound .counted, ap length (b .set-was), length-append (b .left) (b .right), length-append (b .left) (code ∷ b .right))) in
         let q : was ≡ b .left ++ (code ∷ b .right) = sym (h .set-is) ∙ b .set-was in
         let set-is : b .left ++ b .right ≡ removed code was =
@@ -240,32 +240,32 @@ module _ {before : List ℕ} {sizes : Sizes} {layout : Layout} {code : ℕ} {loc
         (told, subst (Holds (set mid 6 (getD before 6 0 - 1))) set-is holds, same)
 
     -- and it comes to rest on a sound store
-    pub mark-never-fails : {mid : List ℕ} → SettleMeets change located 0 1 before mid false → located .marked ≡ false → getD before 6 0 < sizes .most → (was : List ℕ) → Holds before was → ⊥
+    pub mark-never-fails : {mid : List ℕ} → PropagateMeets change located 0 1 before mid false → located .marked ≡ false → getD before 6 0 < sizes .most → (was : List ℕ) → Holds before was → ⊥
     mark-never-fails s e room was h =
-        let t : false ≡ true = mark-settles s e room was h .0 in
+        let t : false ≡ true = mark-propagates s e room was h .0 in
         zero-is-not-one (cc)
 
-    pub clear-never-fails : {mid : List ℕ} → SettleMeets change located 1 0 before mid false → located .marked ≡ true → (was : List ℕ) → Holds before was → ⊥
+    pub clear-never-fails : {mid : List ℕ} → PropagateMeets change located 1 0 before mid false → located .marked ≡ true → (was : List ℕ) → Holds before was → ⊥
     clear-never-fails s e was h =
-        let t : false ≡ true = clear-settles s e was h .0 in
+        let t : false ≡ true = clear-propagates s e was h .0 in
         zero-is-not-one (cc)
 
     module _ (whole : located .damaged ≡ false) {mid : List ℕ} where
-      pub mark-settled : located .marked ≡ false → getD before 6 0 < sizes .most → SettleMeets change located 0 1 before mid true
+      pub mark-completed : located .marked ≡ false → getD before 6 0 < sizes .most → PropagateMeets change located 0 1 before mid true
           → MarkAnswer before (set mid 6 (getD before 6 0 + 1)) code marking.Marked
-      mark-settled e room s =
+      mark-completed e room s =
           record {
-            sound = λ was h. let t = mark-settles s e room was h in (marked-is was h ∙ e, omega (arith, count-is was h, most-is), t .1, t .2);
+            sound = λ was h. let t = mark-propagates s e room was h in (marked-is was h ∙ e, omega (arith, count-is was h, most-is), t .1, t .2);
             leaves = tt;
             closed = λ shut. absurd (opens whole shut);
             long = long-then (s .kept) 6 (getD before 6 0 + 1) (omega arith);
             past = past-then (s .kept) 6 (getD before 6 0 + 1) (omega arith);
           }
 
-      pub clear-settled : located .marked ≡ true → SettleMeets change located 1 0 before mid true → ClearAnswer before (set mid 6 (getD before 6 0 - 1)) code clearing.Cleared
-      clear-settled e s =
+      pub clear-completed : located .marked ≡ true → PropagateMeets change located 1 0 before mid true → ClearAnswer before (set mid 6 (getD before 6 0 - 1)) code clearing.Cleared
+      clear-completed e s =
           record {
-            sound = λ was h. let t = clear-settles s e was h in (marked-is was h ∙ e, t .1, t .2);
+            sound = λ was h. let t = clear-propagates s e was h in (marked-is was h ∙ e, t .1, t .2);
             leaves = tt;
             closed = λ shut. absurd (opens whole shut);
             long = long-then (s .kept) 6 (getD before 6 0 - 1) (omega arith);

@@ -1,3 +1,3 @@
-pub mod Climbing
+pub mod Propagation
 pub mod ChangeBegins
 pub mod ChangeEnds

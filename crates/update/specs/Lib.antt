@@ -1,2 +1,2 @@
-pub mod Settle
+pub mod Propagate
 pub mod Changed

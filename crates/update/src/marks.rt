@@ -2,7 +2,7 @@ ghost use Prim.Native.Nat.{_^_, _<_};
 ghost use mathlib.Core.Path.{_≡_};
 ghost use Rattle.store.specs.Sizes.{UsableStore, sizesOf};
 ghost use Rattle.update.specs.Changed.{MarkAnswer, ClearAnswer};
-use crate::settle::settle;
+use crate::propagate::propagate;
 use descent::locate;
 use step::Change;
 use store::sizes::Sizes;
@@ -39,7 +39,7 @@ pub fn mark(store: &mut [u32], sizes: Sizes, code: u32) -> Marking
         k: wide(sizes.k),
         code,
     };
-    if !settle(store, change, located, 0, 1) {
+    if !propagate(store, change, located, 0, 1) {
         store[0] = 0;
         return Marking::Damaged;
     }
@@ -77,7 +77,7 @@ pub fn clear(store: &mut [u32], sizes: Sizes, code: u32) -> Clearing
         k: wide(sizes.k),
         code,
     };
-    if !settle(store, change, located, 1, 0) {
+    if !propagate(store, change, located, 1, 0) {
         store[0] = 0;
         return Clearing::Damaged;
     }

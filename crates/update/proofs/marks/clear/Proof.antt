@@ -1,11 +1,11 @@
--- `update::marks::clear` meets its contract: nothing is written before every refusal is decided, and what settles is the set without the pixel.
+-- `update::marks::clear` meets its contract: nothing is written before every refusal is decided, and what carries up is the set without the pixel.
 use native.Mathlib.Omega.{arith}
 use mathlib.Core.Path.{refl}
 use borrow.Author.Needs.{needs}
 use borrow.Author.Tests.{not-true, not-false}
 use Rattle.store.proofs.Usable.{layout-fits}
 use Rattle.step.proofs.RegroupEnds.{kept-same}
-use Rattle.update.proofs.ChangeEnds.{LookedUp, never-damaged, never-uncounted, clear-damaged, clear-unmarked, can-settle, clear-never-fails, clear-settled}
+use Rattle.update.proofs.ChangeEnds.{LookedUp, never-damaged, never-uncounted, clear-damaged, clear-unmarked, can-propagate, clear-never-fails, clear-completed}
 use Rattle.update.proofs.marks.clear.Statement.{statement}
 use Rattle.update.proofs.marks.clear.Tie as tie
 
@@ -36,17 +36,17 @@ returns-3 c =
     let u = looked-up (there .before .before .before) in
     clear-damaged u (kept-same _ _ _ refl) (never-uncounted u (not-false _ (there .if2 .left)) (c .if3 .taken))
 
-settle-requires : tie.Need-settle-requires
-settle-requires c κs =
+propagate-requires : tie.Need-propagate-requires
+propagate-requires c κs =
     let whole = c .before .before .before .before .before .before in
-    can-settle (looked-up (whole .before)) (c .before .wide .ensures) (whole .if1 .left) (omega arith) (omega arith)
+    can-propagate (looked-up (whole .before)) (c .before .wide .ensures) (whole .if1 .left) (omega arith) (omega arith)
 
 returns-4 : tie.Need-returns-4
 returns-4 c =
     let after = c .before .before .before in
     let there = after .before .before .before .before .before in
     let u = looked-up (there .before .before .before) in
-    let s = rw (not-true (after .settle .result) (c .if4 .taken)) at (after .settle .ensures) in
+    let s = rw (not-true (after .propagate .result) (c .if4 .taken)) at (after .propagate .ensures) in
     clear-damaged u (s .kept) (clear-never-fails u (after .before .before .wide .ensures) s (not-false _ (there .if2 .left)))
 
 returns-5 : tie.Need-returns-5
@@ -54,8 +54,8 @@ returns-5 c =
     let after = c .before .before .before in
     let there = after .before .before .before .before .before in
     let whole = there .before .before in
-    let s = rw (not-false (after .settle .result) (c .if4 .left)) at (after .settle .ensures) in
-    clear-settled (looked-up (whole .before)) (after .before .before .wide .ensures) (whole .if1 .left) (not-false _ (there .if2 .left)) s
+    let s = rw (not-false (after .propagate .result) (c .if4 .left)) at (after .propagate .ensures) in
+    clear-completed (looked-up (whole .before)) (after .before .before .wide .ensures) (whole .if1 .left) (not-false _ (there .if2 .left)) s
 
 pub clear-spec : {M : Type 1} → statement M
 clear-spec =
@@ -73,7 +73,7 @@ clear-spec =
     (λ c. search needs)
     returns-3
     (λ c κs. search needs)
-    settle-requires
+    propagate-requires
     (λ c. search needs)
     (λ c. search needs)
     returns-4

@@ -1,11 +1,11 @@
--- `update::marks::mark` meets its contract: nothing is written before every refusal is decided, and what settles is the set with the pixel.
+-- `update::marks::mark` meets its contract: nothing is written before every refusal is decided, and what carries up is the set with the pixel.
 use native.Mathlib.Omega.{arith}
 use mathlib.Core.Path.{refl}
 use borrow.Author.Needs.{needs}
 use borrow.Author.Tests.{not-true, not-false}
 use Rattle.store.proofs.Usable.{layout-fits}
 use Rattle.step.proofs.RegroupEnds.{kept-same}
-use Rattle.update.proofs.ChangeEnds.{LookedUp, never-damaged, mark-damaged, mark-already, mark-full, can-settle, mark-never-fails, mark-settled}
+use Rattle.update.proofs.ChangeEnds.{LookedUp, never-damaged, mark-damaged, mark-already, mark-full, can-propagate, mark-never-fails, mark-completed}
 use Rattle.update.proofs.marks.mark.Statement.{statement}
 use Rattle.update.proofs.marks.mark.Tie as tie
 
@@ -35,10 +35,10 @@ returns-3 c =
     let free = c .before .before .before in
     mark-full (looked-up (free .before .before)) (free .before .if1 .left) (free .if2 .left) (c .if3 .taken)
 
-settle-requires : tie.Need-settle-requires
-settle-requires c κs =
+propagate-requires : tie.Need-propagate-requires
+propagate-requires c κs =
     let whole = c .before .before .before .before .before .before in
-    can-settle (looked-up (whole .before)) (c .before .wide .ensures) (whole .if1 .left) (omega arith) (omega arith)
+    can-propagate (looked-up (whole .before)) (c .before .wide .ensures) (whole .if1 .left) (omega arith) (omega arith)
 
 returns-4 : tie.Need-returns-4
 returns-4 c =
@@ -46,7 +46,7 @@ returns-4 c =
     let room = after .before .before .before in
     let free = room .before .before .before in
     let u = looked-up (free .before .before) in
-    let s = rw (not-true (after .settle .result) (c .if4 .taken)) at (after .settle .ensures) in
+    let s = rw (not-true (after .propagate .result) (c .if4 .taken)) at (after .propagate .ensures) in
     mark-damaged u (s .kept) (mark-never-fails u (after .before .before .wide .ensures) s (free .if2 .left) (room .if3 .left))
 
 returns-5 : tie.Need-returns-5
@@ -54,8 +54,8 @@ returns-5 c =
     let after = c .before .before .before in
     let room = after .before .before .before in
     let free = room .before .before .before in
-    let s = rw (not-false (after .settle .result) (c .if4 .left)) at (after .settle .ensures) in
-    mark-settled (looked-up (free .before .before)) (after .before .before .wide .ensures) (free .before .if1 .left) (free .if2 .left) (room .if3 .left) s
+    let s = rw (not-false (after .propagate .result) (c .if4 .left)) at (after .propagate .ensures) in
+    mark-completed (looked-up (free .before .before)) (after .before .before .wide .ensures) (free .before .if1 .left) (free .if2 .left) (room .if3 .left) s
 
 pub mark-spec : {M : Type 1} → statement M
 mark-spec =
@@ -72,7 +72,7 @@ mark-spec =
     (λ c. search needs)
     returns-3
     (λ c κs. search needs)
-    settle-requires
+    propagate-requires
     (λ c. search needs)
     (λ c. search needs)
     returns-4

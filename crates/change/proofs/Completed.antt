@@ -25,7 +25,7 @@ use Rattle.change.proofs.SlotCounts.{waySlots, plug-slots, shared-moves
 use Rattle.change.proofs.FramesStand.{FramesStand, RootStands, root-stands}
 use Rattle.change.proofs.Pending.{Setting, widthIn, slotsIn}
 
-pub record Settled (σ : Setting) (words : List ℕ) : Type 0 where
+pub record Completed (σ : Setting) (words : List ℕ) : Type 0 where
   pub es : Placed
   pub free : List ℕ
   pub root : RootStands (widthIn σ) words (σ .m) es
@@ -52,8 +52,8 @@ root-in-slot-0 : (width : ℕ) (words : List ℕ) (way : List Frame) (s i d : �
 root-in-slot-0 width words [] s i d h = h
 root-in-slot-0 width words (f ∷ way) s i d h = root-in-slot-0 width words way (f .slot) (f .level) (f .code) (h .4)
 
-pub settled : (σ : Setting) (words : List ℕ) (way : List Frame) (s level code : ℕ) (es : Placed) (free : List ℕ) → AtRest σ words way s level code es free → Settled σ words
-settled σ words way s level code es free h =
+pub completed : (σ : Setting) (words : List ℕ) (way : List Frame) (s level code : ℕ) (es : Placed) (free : List ℕ) → AtRest σ words way s level code es free → Completed σ words
+completed σ words way s level code es free h =
     let root : Placed = rootElements way s level code es in
     let e : plug way s level code es ≡ blockThen 0 (σ .m) 0 root nothing =
     plug-root (σ .k) (σ .m) way s level code es (h .frames-right)

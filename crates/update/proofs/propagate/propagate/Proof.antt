@@ -1,4 +1,4 @@
--- `update::settle::settle` meets its contract: each turn leaves the change at rest or pending one block further up, by the laws of Climbing.
+-- `update::propagate::propagate` meets its contract: each turn leaves the change at rest or pending one block further up, by the laws of Propagation.
 use Prim.Native.Nat.{ℕ, _-_}
 use native.Mathlib.Omega.{arith}
 use mathlib.Core.Path.{_≡_, refl, subst, sym, _∙_}
@@ -8,11 +8,11 @@ use borrow.Author.Needs.{needs}
 use Rattle.change.proofs.Pending.{Setting}
 use Rattle.step.specs.Step.{Kept, UpTo16}
 use Rattle.step.proofs.StepEnds.{kept-then}
-use Rattle.update.specs.declared.settle.Around.the-variants.{Block}
-use Rattle.update.specs.Settle.{AroundIs, PendingAt}
-use Rattle.update.proofs.Climbing.{InBounds, Carried, fits-kept, rests, never-damaged, climbs, never-unnamed, begins}
-use Rattle.update.proofs.settle.settle.Statement.{statement}
-use Rattle.update.proofs.settle.settle.Tie as tie
+use Rattle.update.specs.declared.propagate.Around.the-variants.{Block}
+use Rattle.update.specs.Propagate.{AroundIs, PendingAt}
+use Rattle.update.proofs.Propagation.{InBounds, Carried, fits-kept, rests, never-damaged, moves-up, never-unnamed, begins}
+use Rattle.update.proofs.propagate.propagate.Statement.{statement}
+use Rattle.update.proofs.propagate.propagate.Tie as tie
 
 abbrev Inv-loop : tie.InvT-loop
 Inv-loop store₀ change located removed inserted scratch₀ depth₀ slot₀ place₀ out₀ coming₀ store scratch depth slot place out coming =
@@ -129,12 +129,12 @@ loop-again c =
       },
       kept-then (l .loop .inv .1) (s .step .ensures .kept),
       λ σ o p. named σ (sym (n .1)) (sym (n .2))
-          (climbs (a .args .change) (a .args .located .slots) (a .args .located .places) (l .loop .store) (l .loop .scratch) _ _ (l .loop .depth) (l .loop .slot) (l .loop .place) (l .loop .out)
+          (moves-up (a .args .change) (a .args .located .slots) (a .args .located .places) (l .loop .store) (l .loop .scratch) _ _ (l .loop .depth) (l .loop .slot) (l .loop .place) (l .loop .out)
           (l .loop .coming) (s .step .result) (s .step .ensures) _ up σ o (l .loop .inv .2 σ o p) (n .0)),
     )
 
-pub settle-spec : {M : Type 1} → statement M
-settle-spec =
+pub propagate-spec : {M : Type 1} → statement M
+propagate-spec =
     tie.close
     (tie.spec
     Inv-loop

@@ -1,5 +1,5 @@
 ghost use Prim.Native.Nat.{_≤_};
-ghost use Rattle.update.specs.Settle.{AroundIs, CanSettle, SettleMeets};
+ghost use Rattle.update.specs.Propagate.{AroundIs, CanPropagate, PropagateMeets};
 use descent::Located;
 use step::Change;
 use step::Stepped;
@@ -30,15 +30,15 @@ fn block_around(located: Located, depth: usize) -> Around
 }
 
 // The change goes up the path, block by block, until it is at rest: true; false where the words cannot be a register's.
-pub fn settle(
+pub fn propagate(
     store: &mut [u32],
     change: Change,
     located: Located,
     removed: usize,
     inserted: usize,
 ) -> bool
-    requires { ⌜ CanSettle change (now store) located removed inserted ⌝ }
-    ensures { λ r. ⌜ SettleMeets change located removed inserted (now (store .entry)) (now (store .exit)) r ⌝ }
+    requires { ⌜ CanPropagate change (now store) located removed inserted ⌝ }
+    ensures { λ r. ⌜ PropagateMeets change located removed inserted (now (store .entry)) (now (store .exit)) r ⌝ }
 {
     let mut scratch = [0u32; 32];
     scratch[0] = change.code;

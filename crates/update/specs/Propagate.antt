@@ -12,11 +12,11 @@ use Rattle.descent.specs.declared.Located.{Located}
 use Rattle.descent.specs.Way.{Frame}
 use Rattle.descent.specs.Located.{PathNames}
 use Rattle.change.proofs.Pending.{Setting, Pending}
-use Rattle.change.proofs.Settled.{Settled}
+use Rattle.change.proofs.Completed.{Completed}
 use Rattle.step.specs.declared.Change.{Change}
 use Rattle.step.specs.Step.{Kept}
-use Rattle.update.specs.declared.settle.Around.{Around}
-use Rattle.update.specs.declared.settle.Around.the-variants.{Block, Nothing}
+use Rattle.update.specs.declared.propagate.Around.{Around}
+use Rattle.update.specs.declared.propagate.Around.the-variants.{Block, Nothing}
 
 -- the block around the one at this depth, as the path names it
 abbrev pub AroundIs : Located → ℕ → Around → Type 0
@@ -24,7 +24,7 @@ AroundIs located depth (Block slot place) =
     (0 < depth) × (slot ≡ getD (located .slots) (depth - 1) 0) × (place ≡ getD (located .places) (depth - 1) 0) × (place ≤ 75)
 AroundIs located depth Nothing = 0 < depth → 75 < getD (located .places) (depth - 1) 0
 
-pub record CanSettle (change : Change) (words : List ℕ) (located : Located) (removed inserted : ℕ) : Type 0 where
+pub record CanPropagate (change : Change) (words : List ℕ) (located : Located) (removed inserted : ℕ) : Type 0 where
   pub fits : LayoutFits (change .layout) words
   pub k-from : 2 ≤ change .k
   pub k-to : change .k ≤ 16
@@ -58,8 +58,8 @@ pub record OfChange (σ : Setting) (change : Change) : Type 0 where
   pub k-is : change .k ≡ σ .k
   pub x-is : change .code ≡ σ .x
 
-pub record SettleMeets (change : Change) (located : Located) (removed inserted : ℕ) (before after : List ℕ) (r : Bool) : Type 0 where
+pub record PropagateMeets (change : Change) (located : Located) (removed inserted : ℕ) (before after : List ℕ) (r : Bool) : Type 0 where
   pub kept : Kept (change .layout) before after
   pub right : (σ : Setting) → OfChange σ change
       → PendingAt σ before (located .slots) (located .places) (located .depth) (located .slot) (located .place) removed inserted (change .code ∷ 0 ∷ [])
-      → (r ≡ true) × Settled σ after
+      → (r ≡ true) × Completed σ after

@@ -1,4 +1,4 @@
--- The loop of `settle`: the change is pending in the block that the path names, in every setting in which it was so at the start.
+-- The loop of `propagate`: the change is pending in the block that the path names, in every setting in which it was so at the start.
 use Prim.Native.Nat.{ℕ, zero, suc, _-_, _*_, _≤_, _<_}
 use native.Mathlib.Omega.{arith}
 use native.Mathlib.Decide.{decLt}
@@ -15,12 +15,12 @@ use Rattle.store.proofs.PlacedJoin.{size-placed-join}
 use Rattle.descent.specs.Way.{Frame}
 use Rattle.descent.specs.Located.{PathNames}
 use Rattle.change.proofs.Pending.{Setting, Pending}
-use Rattle.change.proofs.Settled.{Settled}
+use Rattle.change.proofs.Completed.{Completed}
 use Rattle.step.specs.declared.Change.{Change}
 use Rattle.step.specs.declared.Stepped.{Stepped}
 use Rattle.step.specs.declared.Stepped.the-variants.{Done, Up, Damaged}
 use Rattle.step.specs.Step.{Kept, InSetting, SteppedRight, StepMeets}
-use Rattle.update.specs.Settle.{PendingAt, OfChange}
+use Rattle.update.specs.Propagate.{PendingAt, OfChange}
 
 -- what holds at each turn, on any words
 pub record InBounds (change : Change) (path words scratch : List ℕ) (depth slot place out coming : ℕ) : Type 0 where
@@ -69,7 +69,7 @@ module _ (change : Change) (path places words scratch after scratch′ : List �
       m .right σ (p .way) (p .level) (p .code) (p .a) (p .old) (p .new) (p .b) (p .free) (in-setting σ change depth (p .way) o (p .depth-is)) (p .place-is) (p .removed-is) (p .inserted-is)
       (p .scratch-is) (p .pending)
 
-  pub rests : r ≡ Done → (σ : Setting) → OfChange σ change → PendingAt σ words path places depth slot place out coming scratch → Settled σ after
+  pub rests : r ≡ Done → (σ : Setting) → OfChange σ change → PendingAt σ words path places depth slot place out coming scratch → Completed σ after
   rests e σ o p = subst (SteppedRight σ after scratch′ (p .way) slot) e (stepped σ o p)
 
   pub never-damaged : r ≡ Damaged → (σ : Setting) → OfChange σ change → PendingAt σ words path places depth slot place out coming scratch → ⊥
@@ -87,9 +87,9 @@ module _ (change : Change) (path places words scratch after scratch′ : List �
       go (f ∷ w) q s = absurd (omega arith)
 
   -- one block further up
-  pub climbs : (n : ℕ) → r ≡ Up n → (σ : Setting) → OfChange σ change → PendingAt σ words path places depth slot place out coming scratch → 0 < depth
+  pub moves-up : (n : ℕ) → r ≡ Up n → (σ : Setting) → OfChange σ change → PendingAt σ words path places depth slot place out coming scratch → 0 < depth
       → PendingAt σ after path places (depth - 1) (getD path (depth - 1) 0) (getD places (depth - 1) 0) 1 n scratch′
-  climbs n e σ o p pos = go (p .way) (p .depth-is) (p .names) (above n e σ o p)
+  moves-up n e σ o p pos = go (p .way) (p .depth-is) (p .names) (above n e σ o p)
     where
       go : (w : List Frame) → depth ≡ length w → PathNames path places w → SteppedRight σ after scratch′ w slot (Up n)
           → PendingAt σ after path places (depth - 1) (getD path (depth - 1) 0) (getD places (depth - 1) 0) 1 n scratch′
@@ -122,7 +122,7 @@ module _ (change : Change) (path places words scratch after scratch′ : List �
   never-unnamed n e none σ o p = go (decLt 0 depth)
     where
       go : Dec (0 < depth) → ⊥
-      go (yes pos) = omega (arith, none pos, place-small σ after path places _ _ _ _ _ _ (climbs n e σ o p pos))
+      go (yes pos) = omega (arith, none pos, place-small σ after path places _ _ _ _ _ _ (moves-up n e σ o p pos))
       go (no z) = never-above-root n e (omega arith) σ o p
 
 -- the scratch words at the start have the pixel
