@@ -1,0 +1,179 @@
+// The register for C, and for what calls C: numbers and slices only, each call register's own. None has a requires; each has one
+// ensures, register's record through its answer definition.
+ghost use mathlib.Core.Path.{_≡_};
+ghost use Rattle.register.specs.Answer.{yesNo, answer, askAnswer, countAnswer, listAnswer, saveAnswer, checkAnswer};
+ghost use Rattle.register.specs.Answer as answers;
+ghost use Rattle.register.specs.Make.{MakeMeets};
+ghost use Rattle.register.specs.Mark.{MarkMeets};
+ghost use Rattle.register.specs.Clear.{ClearMeets};
+ghost use Rattle.register.specs.Load.{LoadMeets};
+ghost use Rattle.register.specs.Ask.{AskMeets};
+ghost use Rattle.register.specs.Count.{CountMeets};
+ghost use Rattle.register.specs.List.{ListMeets};
+ghost use Rattle.register.specs.Save.{SaveMeets};
+ghost use Rattle.register.specs.Check.{CheckMeets};
+ghost use Rattle.pkreg.specs.Gives.{Gives, alone, numbers};
+ghost use Rattle.pkreg.specs.Words.{WordsNeeded};
+use register::Asking;
+use register::Checking;
+use register::Counting;
+use register::Listing;
+use register::Saving;
+use register::refusal_of;
+use store::sizes::Sizes;
+use store::sizes::layout_of;
+use store::sizes::store_end;
+use store::sizes::within_limits;
+
+// 01's number and values: refusal 0 is an accepted call.
+#[repr(C)]
+pub struct PkAnswer {
+    pub refusal: u32,
+    pub first: u32,
+    pub second: u32,
+}
+
+fn accepted(first: u32, second: u32) -> PkAnswer
+    ensures { λ r. ⌜ numbers r ≡ answers.accepted first second ⌝ }
+{
+    PkAnswer {
+        refusal: 0,
+        first,
+        second,
+    }
+}
+
+fn refused(refusal: u32) -> PkAnswer
+    ensures { λ r. ⌜ numbers r ≡ answers.refused refusal ⌝ }
+{
+    PkAnswer {
+        refusal,
+        first: 0,
+        second: 0,
+    }
+}
+
+fn short(needed: u32) -> PkAnswer
+    ensures { λ r. ⌜ numbers r ≡ answers.short needed ⌝ }
+{
+    PkAnswer {
+        refusal: 9,
+        first: needed,
+        second: 0,
+    }
+}
+
+fn yes_no(marked: bool) -> u32
+    ensures { λ r. ⌜ r ≡ yesNo marked ⌝ }
+{
+    if marked { 1 } else { 0 }
+}
+
+// The words that a store needs, 0 for a k or an n (01's N) beyond its limits. They do not depend on the order.
+#[no_mangle]
+pub extern "C" fn pk_words(k: u32, n: u32) -> u64
+    ensures { λ r. ⌜ WordsNeeded k n r ⌝ }
+{
+    let sizes = Sizes {
+        order: 1,
+        k,
+        most: n,
+    };
+    if !within_limits(sizes) {
+        return 0;
+    }
+    store_end(layout_of(sizes)) as u64
+}
+
+#[no_mangle]
+pub extern "C" fn pk_make(store: &mut [u32], m: u32, k: u32, n: u32) -> u32
+    ensures { λ r. ⌜ Gives (MakeMeets (now (store .entry)) (now (store .exit)) m k n) answer (alone r) ⌝ }
+{
+    refusal_of(register::make(store, m, k, n))
+}
+
+#[no_mangle]
+pub extern "C" fn pk_mark(store: &mut [u32], x: u32, y: u32) -> u32
+    ensures { λ r. ⌜ Gives (MarkMeets (now (store .entry)) (now (store .exit)) x y) answer (alone r) ⌝ }
+{
+    refusal_of(register::mark(store, x, y))
+}
+
+#[no_mangle]
+pub extern "C" fn pk_clear(store: &mut [u32], x: u32, y: u32) -> u32
+    ensures { λ r. ⌜ Gives (ClearMeets (now (store .entry)) (now (store .exit)) x y) answer (alone r) ⌝ }
+{
+    refusal_of(register::clear(store, x, y))
+}
+
+#[no_mangle]
+pub extern "C" fn pk_load(store: &mut [u32], image: &[u8]) -> u32
+    ensures { λ r. ⌜ Gives (LoadMeets (now (store .entry)) (now (store .exit)) (now (image .entry))) answer (alone r) ⌝ }
+{
+    refusal_of(register::load(store, image))
+}
+
+// first is 1 for a marked pixel, second the blocks opened.
+#[no_mangle]
+pub extern "C" fn pk_ask(store: &[u32], x: u32, y: u32) -> PkAnswer
+    ensures { λ r. ⌜ Gives (AskMeets (now (store .entry)) x y) askAnswer (numbers r) ⌝ }
+{
+    match register::ask(store, x, y) {
+        Asking::Answered { marked, opened } => accepted(yes_no(marked), opened as u32),
+        Asking::Refused(number) => refused(number),
+    }
+}
+
+// first is the pixels found, second the blocks opened.
+#[no_mangle]
+pub extern "C" fn pk_count(store: &[u32], x0: u32, y0: u32, x1: u32, y1: u32) -> PkAnswer
+    ensures { λ r. ⌜ Gives (CountMeets (now (store .entry)) x0 y0 x1 y1) countAnswer (numbers r) ⌝ }
+{
+    match register::count(store, x0, y0, x1, y1) {
+        Counting::Found { found, opened } => accepted(found, opened),
+        Counting::Refused(number) => refused(number),
+    }
+}
+
+// As pk_count; with 9, first is the words needed.
+#[no_mangle]
+pub extern "C" fn pk_list(
+    store: &[u32],
+    x0: u32,
+    y0: u32,
+    x1: u32,
+    y1: u32,
+    output: &mut [u32],
+) -> PkAnswer
+    ensures { λ r. ⌜ Gives (ListMeets (now (store .entry)) x0 y0 x1 y1 (now (output .entry)) (now (output .exit))) listAnswer (numbers r) ⌝ }
+{
+    match register::list(store, x0, y0, x1, y1, output) {
+        Listing::Found { found, opened } => accepted(found, opened),
+        Listing::Short(needed) => short(needed),
+        Listing::Refused(number) => refused(number),
+    }
+}
+
+// first is the image's length; with 9, the bytes needed.
+#[no_mangle]
+pub extern "C" fn pk_save(store: &[u32], output: &mut [u8]) -> PkAnswer
+    ensures { λ r. ⌜ Gives (SaveMeets (now (store .entry)) (now (output .entry)) (now (output .exit))) saveAnswer (numbers r) ⌝ }
+{
+    match register::save(store, output) {
+        Saving::Saved(length) => accepted(length as u32, 0),
+        Saving::Short(needed) => short(needed as u32),
+        Saving::Refused(number) => refused(number),
+    }
+}
+
+// first is 1 for a sound store, 0 for another.
+#[no_mangle]
+pub extern "C" fn pk_check(store: &[u32]) -> PkAnswer
+    ensures { λ r. ⌜ Gives (CheckMeets (now (store .entry))) checkAnswer (numbers r) ⌝ }
+{
+    match register::check(store) {
+        Checking::Sound => accepted(1, 0),
+        Checking::Unsound => accepted(0, 0),
+        Checking::Refused(number) => refused(number),
+    }
+}

@@ -1,0 +1,142 @@
+"""Images of registers of unfit pixels: show them, list a window, compare two, turn them into mask pictures and back."""
+
+import argparse
+import itertools
+import os
+import sys
+
+from pictures import PictureError, read_picture, write_picture
+from pkreg import MOST_PIXELS, LibraryMissing, Refusal, Register, code_of, entries_of, pixel_of, sizes_of
+
+# the image of the most pixels in the most blocks
+LONGEST_IMAGE = 10 + 5 * (2 * MOST_PIXELS)
+PICTURES = """A picture is PBM (name ending .pbm), where 1 is masked, or PGM (.pgm) of greatest value 255, where 255 is masked and 0 is not.
+Column x of row y is pixel (x, y); row 0 is the first row of the file."""
+DIFFERENT, FAILED = 1, 2
+
+
+class UserError(Exception):
+    """What the user is told, in one line."""
+
+
+def read_image(path):
+    """The bytes of an image, and a register that holds its pixels: so a damaged image is refused before it is shown."""
+    with open(path, "rb") as file:
+        image = file.read(LONGEST_IMAGE + 1)
+    try:
+        return image, Register.from_image(image)
+    except Refusal as refusal:
+        raise UserError(f"{path}: not a whole image: {refusal}") from None
+
+
+def pixels_of(register):
+    last = register.side - 1
+    return [pixel_of(code) for code in register.list(0, 0, last, last).codes]
+
+
+def show(arguments):
+    image, register = read_image(arguments.image)
+    sizes = sizes_of(image)
+    blocks = sizes.entries - sizes.pixels
+    print(f"order {sizes.order}, side {register.side}, k {sizes.k}, blocks {blocks}, pixels {sizes.pixels}")
+    for level, code in entries_of(image):
+        x, y = pixel_of(code)
+        if level:
+            print(f"block level {level} code {code}: x {x} to {x + 2**level - 1}, y {y} to {y + 2**level - 1}")
+        else:
+            print(f"pixel code {code}: x {x}, y {y}")
+    return 0
+
+
+def list_window(arguments):
+    _, register = read_image(arguments.image)
+    window = (arguments.x0, arguments.y0, arguments.x1, arguments.y1)
+    listed = register.list(*window)
+    print(f"found {len(listed.codes)}, opened {listed.opened}")
+    for code in listed.codes:
+        x, y = pixel_of(code)
+        print(f"pixel code {code}: x {x}, y {y}")
+    return 0
+
+
+def compare(arguments):
+    first, second = read_image(arguments.image)[1], read_image(arguments.other)[1]
+    if first.order != second.order:
+        raise UserError(f"{arguments.image} is of order {first.order} and {arguments.other} of order {second.order}: no panel is of both")
+    one, other = set(pixels_of(first)), set(pixels_of(second))
+    if one == other:
+        print(f"the images mask alike, masked pixels: {len(one)}")
+        return 0
+    print(f"the images mask differently, differing pixels: {len(one ^ other)}")
+    for x, y in sorted(one ^ other, key=lambda pixel: code_of(*pixel)):
+        print(f"only in {arguments.image if (x, y) in one else arguments.other}: x {x}, y {y}")
+    return DIFFERENT
+
+
+def to_picture(arguments):
+    _, register = read_image(arguments.image)
+    write_picture(arguments.picture, register.order, pixels_of(register))
+    return 0
+
+
+def to_image(arguments):
+    order, masked = read_picture(arguments.picture)
+    pixels = list(itertools.islice(masked, MOST_PIXELS + 1))
+    if len(pixels) > MOST_PIXELS:
+        raise UserError(f"{arguments.picture}: more masked pixels than the {MOST_PIXELS} that a register holds")
+    register = Register.make(order, arguments.k, max(len(pixels), 1))
+    for x, y in pixels:
+        register.mark(x, y)
+    with open(arguments.image, "wb") as file:
+        file.write(register.save())
+    return 0
+
+
+def coordinate(text):
+    value = int(text)
+    if not 0 <= value < 2**32:
+        raise argparse.ArgumentTypeError(f"{text} is not from 0 to {2**32 - 1}")
+    return value
+
+
+def parse(words):
+    parser = argparse.ArgumentParser(prog="pkmask", description=__doc__, epilog="Status: 0 done, 1 the images mask differently, 2 an error.")
+    commands = parser.add_subparsers(metavar="COMMAND", required=True)
+
+    def command(name, run, says, *files, **more):
+        added = commands.add_parser(name, help=says, description=says, formatter_class=argparse.RawDescriptionHelpFormatter, **more)
+        added.set_defaults(run=run)
+        for file in files:
+            added.add_argument(file)
+        return added
+
+    command("show", show, "show an image's sizes and its entries, in the image's order", "image")
+    window = command("list", list_window, "list the masked pixels of a window, both corners included", "image")
+    for name in ("x0", "y0", "x1", "y1"):
+        window.add_argument(name, type=coordinate)
+    command("compare", compare, "say whether two images mask alike, and which pixels differ", "image", "other")
+    command("picture", to_picture, "write an image's mask as a picture", "image", "picture", epilog=PICTURES)
+    back = command("image", to_image, "write the image of a mask picture", "picture", "image", epilog=PICTURES)
+    back.add_argument("--k", type=coordinate, required=True, help="k of the register, 2 to 16; images are compared by bytes at the same k")
+    return parser.parse_args(words)
+
+
+def main(words):
+    arguments = parse(words)
+    try:
+        status = arguments.run(arguments)
+        sys.stdout.flush()
+        return status
+    except BrokenPipeError:
+        # the reader of the output has gone: nothing is left to say, and to no one
+        os.dup2(os.open(os.devnull, os.O_WRONLY), sys.stdout.fileno())
+        return FAILED
+    except OSError as error:
+        print(f"pkmask: {error.filename or 'output'}: {error.strerror}", file=sys.stderr)
+    except (UserError, Refusal, PictureError, LibraryMissing) as error:
+        print(f"pkmask: {error}", file=sys.stderr)
+    return FAILED
+
+
+if __name__ == "__main__":
+    sys.exit(main(sys.argv[1:]))

@@ -1,0 +1,247 @@
+"""The register of unfit pixels, over the shared library that `make lib` builds.
+
+    from pkreg import Register, Refusal
+    register = Register.make(3, 3, 16)    # order m, k, and the most pixels
+    register.mark(5, 3)
+    register.ask(5, 3)                    # Asked(marked=True, opened=1)
+    open("lab.img", "wb").write(register.save())
+
+A refused call raises Refusal, which carries the number, its meaning and, with 9, the length needed.
+"""
+
+import ctypes
+import os
+from typing import NamedTuple
+
+MEANINGS = {
+    1: "m, k or N is beyond its limits: m is 1 to 16, k 2 to 16, N 1 to 65535",
+    2: "the store is too short for k and N",
+    3: "these words are no register",
+    4: "a coordinate is not on the panel",
+    5: "the pixel is marked already",
+    6: "the register is full: it holds N pixels",
+    7: "the pixel is not marked",
+    8: "the window is reversed: x0 > x1 or y0 > y1",
+    9: "the output is too short",
+    10: "not an image: under 10 bytes, or not as long as its number of entries asks",
+    11: "the image has another m or k than the register, or more pixels than N",
+    12: "the image is damaged: no set of pixels has it",
+    13: "the store is damaged: something else wrote to its words",
+}
+MOST_PIXELS = 65535
+HEAD_BYTES = 10
+
+
+class Refusal(Exception):
+    """A refused call: its number, what that means, and the length needed (0 but for number 9)."""
+
+    def __init__(self, number, needed=0):
+        super().__init__(f"refused {number}: {MEANINGS[number]}")
+        self.number = number
+        self.meaning = MEANINGS[number]
+        self.needed = needed
+
+
+class LibraryMissing(Exception):
+    """The shared library is not there."""
+
+
+class Asked(NamedTuple):
+    marked: bool
+    opened: int
+
+
+class Counted(NamedTuple):
+    found: int
+    opened: int
+
+
+class Listed(NamedTuple):
+    codes: list
+    opened: int
+
+
+class _Answer(ctypes.Structure):
+    _fields_ = [("refusal", ctypes.c_uint32), ("first", ctypes.c_uint32), ("second", ctypes.c_uint32)]
+
+
+_NUMBER = ctypes.c_uint32
+_WORDS = [ctypes.POINTER(ctypes.c_uint32), ctypes.c_size_t]
+_BYTES = [ctypes.POINTER(ctypes.c_uint8), ctypes.c_size_t]
+_SIGNATURES = {
+    "pk_words": (ctypes.c_uint64, [_NUMBER] * 2),
+    "pk_make": (_NUMBER, _WORDS + [_NUMBER] * 3),
+    "pk_mark": (_NUMBER, _WORDS + [_NUMBER] * 2),
+    "pk_clear": (_NUMBER, _WORDS + [_NUMBER] * 2),
+    "pk_load": (_NUMBER, _WORDS + _BYTES),
+    "pk_ask": (_Answer, _WORDS + [_NUMBER] * 2),
+    "pk_count": (_Answer, _WORDS + [_NUMBER] * 4),
+    "pk_list": (_Answer, _WORDS + [_NUMBER] * 4 + _WORDS),
+    "pk_save": (_Answer, _WORDS + _BYTES),
+    "pk_check": (_Answer, _WORDS),
+}
+
+
+def open_library():
+    """The shared library: PKREG_LIBRARY, or build/libpkreg.so of this repository."""
+    beside = os.path.join(os.path.dirname(os.path.abspath(__file__)), "..", "build", "libpkreg.so")
+    path = os.environ.get("PKREG_LIBRARY") or os.path.normpath(beside)
+    try:
+        library = ctypes.CDLL(path)
+    except OSError as error:
+        raise LibraryMissing(f"cannot open the library {path}: run 'make lib', or name it by PKREG_LIBRARY") from error
+    for name, (result, arguments) in _SIGNATURES.items():
+        function = getattr(library, name)
+        function.restype, function.argtypes = result, arguments
+    return library
+
+
+_library = None
+
+
+def _calls():
+    """The library, opened by the first call: so that importing this module cannot fail."""
+    global _library
+    if _library is None:
+        _library = open_library()
+    return _library
+
+
+def _number(value):
+    """An argument of 32 bits: ctypes would cut a larger one to another, valid number."""
+    if not 0 <= value < 2**32:
+        raise ValueError(f"{value} is not a number of 32 bits")
+    return value
+
+
+def words(k, n):
+    """The words that a register of this k and N needs; 0 beyond the limits."""
+    return _calls().pk_words(_number(k), _number(n))
+
+
+def code_of(x, y):
+    """The code of a pixel: bit i of x is bit 2i, bit i of y is bit 2i + 1."""
+    return sum((x >> i & 1) << 2 * i | (y >> i & 1) << 2 * i + 1 for i in range(16))
+
+
+def pixel_of(code):
+    """The pixel (x, y) of a code."""
+    x = sum((code >> 2 * i & 1) << i for i in range(16))
+    y = sum((code >> 2 * i + 1 & 1) << i for i in range(16))
+    return x, y
+
+
+class Entry(NamedTuple):
+    level: int
+    code: int
+
+
+class Sizes(NamedTuple):
+    order: int
+    k: int
+    entries: int
+    pixels: int
+
+
+def sizes_of(image):
+    """The sizes at the head of an image; the bytes are not judged beyond their number."""
+    if len(image) < HEAD_BYTES:
+        raise Refusal(10)
+    return Sizes(image[0], image[1], int.from_bytes(image[2:6], "little"), int.from_bytes(image[6:10], "little"))
+
+
+def entries_of(image):
+    """The entries of an image that was loaded or saved, in its order."""
+    number = sizes_of(image).entries
+    levels = HEAD_BYTES + 4 * number
+    return [
+        Entry(image[levels + i], int.from_bytes(image[HEAD_BYTES + 4 * i : HEAD_BYTES + 4 * i + 4], "little"))
+        for i in range(number)
+    ]
+
+
+class Register:
+    """A register in words of its own. Use Register.make or Register.from_image."""
+
+    def __init__(self, number_of_words):
+        self._words = (ctypes.c_uint32 * max(number_of_words, 1))()
+        self._lent = (self._words, len(self._words))
+
+    @classmethod
+    def make(cls, m, k, n):
+        """An empty register of order m, with this k, for at most n pixels."""
+        register = cls(words(k, n))
+        register._done(_calls().pk_make(*register._lent, _number(m), _number(k), _number(n)))
+        return register
+
+    @classmethod
+    def from_image(cls, image):
+        """A register of the image's own sizes that holds its pixels, and no room for more."""
+        sizes = sizes_of(image)
+        register = cls.make(sizes.order, sizes.k, min(max(sizes.pixels, 1), MOST_PIXELS))
+        register.load(image)
+        return register
+
+    @property
+    def order(self):
+        return self._words[1]
+
+    @property
+    def side(self):
+        return 2**self.order
+
+    def mark(self, x, y):
+        self._done(_calls().pk_mark(*self._lent, _number(x), _number(y)))
+
+    def clear(self, x, y):
+        self._done(_calls().pk_clear(*self._lent, _number(x), _number(y)))
+
+    def load(self, image):
+        """The register holds exactly the image's pixels."""
+        lent = (ctypes.c_uint8 * max(len(image), 1)).from_buffer_copy(image or b"\0")
+        self._done(_calls().pk_load(*self._lent, lent, len(image)))
+
+    def ask(self, x, y):
+        answer = self._answer(_calls().pk_ask(*self._lent, _number(x), _number(y)))
+        return Asked(answer.first == 1, answer.second)
+
+    def count(self, x0, y0, x1, y1):
+        """The marked pixels in the window, both corners included, and the blocks opened."""
+        answer = self._answer(_calls().pk_count(*self._lent, *map(_number, (x0, y0, x1, y1))))
+        return Counted(answer.first, answer.second)
+
+    def list(self, x0, y0, x1, y1):
+        """As count, with the code of each found pixel; pixel_of gives its x and y."""
+        most = self._words[3]
+        output = (ctypes.c_uint32 * max(most, 1))()
+        answer = self._answer(_calls().pk_list(*self._lent, *map(_number, (x0, y0, x1, y1)), output, len(output)))
+        return Listed(output[: answer.first], answer.second)
+
+    def save(self):
+        """The image, as bytes."""
+        try:
+            return self._save_into(0)
+        except Refusal as refusal:
+            if refusal.number != 9:
+                raise
+            return self._save_into(refusal.needed)
+
+    def check(self):
+        """Whether the store is sound."""
+        return self._answer(_calls().pk_check(*self._lent)).first == 1
+
+    def _save_into(self, length):
+        output = (ctypes.c_uint8 * max(length, 1))()
+        answer = self._answer(_calls().pk_save(*self._lent, output, length))
+        return bytes(output[: answer.first])
+
+    @staticmethod
+    def _done(refusal):
+        if refusal:
+            raise Refusal(refusal)
+
+    @staticmethod
+    def _answer(answer):
+        if answer.refusal:
+            raise Refusal(answer.refusal, answer.first)
+        return answer

@@ -1,0 +1,118 @@
+"""Random sizes, pixels, windows and images, with a liking for what is near a limit."""
+
+from model import corner, image_of, interleave
+
+FAR = 2**32 - 1
+
+
+def sizes(random):
+    """m, k and N: small panels fill up, large ones have long codes."""
+    m = random.choice((1, 2, 3, 3, 4, 4, 6, 8, 15, 16))
+    k = random.choice((2, 2, 3, 3, 4, 5, 8, 16))
+    n = random.choice((1, 3, 9, 30, 50, 70, 100, 300))
+    return m, k, n
+
+
+def beyond(random, m, k, n):
+    """Sizes of which one is beyond its limits."""
+    return random.choice(((0, k, n), (17, k, n), (FAR, k, n), (m, 1, n), (m, 17, n), (m, 0, n), (m, k, 0), (m, k, 65536), (m, k, FAR)))
+
+
+def pixel(random, model):
+    """A pixel: marked, near a marked one, anywhere on the panel, or off it."""
+    side, kind = 2**model.order, random.random()
+    if kind < 0.03:
+        return random.choice(((side, 0), (0, side), (FAR, 0), (side - 1, FAR)))
+    if kind < 0.7 and model.codes:
+        x, y = corner(random.choice(sorted(model.codes)))
+        if kind < 0.3:
+            return x, y
+        return x ^ random.choice((0, 1, 1, 2, 3)) % side, y ^ random.choice((0, 1, 1, 2, 3)) % side
+    return random.randrange(side), random.randrange(side)
+
+
+def window(random, model):
+    """A window: the panel, one pixel, between two pixels, reversed, or off the panel."""
+    side, kind = 2**model.order, random.random()
+    if kind < 0.2:
+        return 0, 0, side - 1, side - 1
+    (xa, ya), (xb, yb) = pixel(random, model), pixel(random, model)
+    if kind < 0.3:
+        return xa, ya, xb, yb
+    if kind < 0.4:
+        return xa, ya, xa, ya
+    return min(xa, xb), min(ya, yb), max(xa, xb), max(ya, yb)
+
+
+def codes(random, model):
+    """A set of pixels, in clusters, that may be one too many for N."""
+    panel = 4**model.order
+    number = min(random.randrange(model.most + 2), panel, 60)
+    chosen, base = set(), random.randrange(panel)
+    while len(chosen) < number:
+        if random.random() < 0.2:
+            base = random.randrange(panel)
+        chosen.add((base ^ random.randrange(4 ** random.randint(0, model.order))) % panel)
+    return chosen
+
+
+def damaged(random, image):
+    """An image with one thing changed; now and then that makes it another set's image."""
+    image, kind = bytearray(image), random.randrange(7)
+    entries = (len(image) - 10) // 5
+    at = random.randrange(len(image))
+    if kind == 0:
+        image[at] ^= 1 << random.randrange(8)
+    elif kind == 1:
+        image[at] = random.randrange(256)
+    elif kind == 2:
+        del image[at:]
+    elif kind == 3:
+        image += bytes(random.randrange(1, 12))
+    elif kind == 4:
+        image[random.choice((0, 1, 2, 6, 7, 9))] ^= random.choice((1, 2, 3, 128))
+    elif kind == 5:
+        _swap(image, random.randrange(entries), random.randrange(entries), entries)
+    else:
+        _leave_out(image, random.randrange(entries), entries)
+    return bytes(image)
+
+
+def _swap(image, one, other, entries):
+    a, b = slice(10 + 4 * one, 14 + 4 * one), slice(10 + 4 * other, 14 + 4 * other)
+    image[a], image[b] = image[b], image[a]
+    levels = 10 + 4 * entries
+    image[levels + one], image[levels + other] = image[levels + other], image[levels + one]
+
+
+def _leave_out(image, one, entries):
+    """An entry is left out and the sizes agree with that; the blocks often do not."""
+    pixels = int.from_bytes(image[6:10], "little") - (image[10 + 4 * entries + one] == 0)
+    del image[10 + 4 * entries + one]
+    del image[10 + 4 * one : 14 + 4 * one]
+    image[2:6], image[6:10] = (entries - 1).to_bytes(4, "little"), max(pixels, 0).to_bytes(4, "little")
+
+
+def image(random, model):
+    """An image for load: whole, of other sizes, damaged, or any bytes."""
+    kind = random.random()
+    chosen = model.codes if kind < 0.15 else codes(random, model)
+    whole = image_of(model.order, model.k, chosen)
+    if kind < 0.45:
+        return whole
+    if kind < 0.5:
+        return image_of(model.order % 16 + 1, model.k, chosen)
+    if kind < 0.55:
+        return image_of(model.order, model.k % 15 + 2, chosen)
+    if kind < 0.95:
+        return damaged(random, whole)
+    return random.randbytes(random.randrange(40))
+
+
+def marked_and_beside(model):
+    """Marked pixels and their unmarked neighbours, for a last look."""
+    for code in sorted(model.codes)[:40]:
+        x, y = corner(code)
+        yield x, y
+        if interleave(x ^ 1, y) not in model.codes:
+            yield x ^ 1, y

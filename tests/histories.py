@@ -1,0 +1,97 @@
+"""Random histories on a sound store: every answer, every output and every image as the model has it."""
+
+import choices
+from lent import octets, words
+from model import Model, corner, words_needed
+from subject import Subject, expect
+
+LOOKS = ("ask",) * 3 + ("count",) * 2 + ("list",) * 2 + ("save", "check")
+# a history grows, shrinks or is mixed for some steps each, so that trees become large and dissolve again
+PHASES = (("mark",) * 16 + LOOKS, ("mark",) * 3 + ("clear",) * 14 + LOOKS, ("mark",) * 8 + ("clear",) * 6 + ("load",) * 3 + LOOKS)
+
+
+def made(random, m, k, n, tally):
+    """A register fresh from make, in words that held anything; make's refusals come first."""
+    length = words_needed(k, n)
+    subject = Subject([random.getrandbits(32) for _ in range(length + random.randrange(4))], tally)
+    expect("make beyond limits", subject.made(*choices.beyond(random, m, k, n)), 1)
+    short = Subject(subject.store.values()[: random.choice((0, 3, 7, 8, length - 1))], tally)
+    expect("make in too few words", short.made(m, k, n), 2)
+    expect(f"make({m}, {k}, {n})", subject.made(m, k, n), 0)
+    return subject
+
+
+def room(random, needed):
+    return random.choice((needed, needed, needed + 1, needed + 7, max(needed - 1, 0), 0))
+
+
+def list_call(random, subject, model):
+    window = choices.window(random, model)
+    needed = len(model.window(*window)[1])
+    output = words([random.getrandbits(32) for _ in range(room(random, needed))])
+    told = subject.call("list", *window, output=output)
+    expected, found = model.list(*window, room=output.length)
+    expect(f"list{window} in {output.length} words", (told, sorted(output.values()[: len(found)])), (expected, found))
+
+
+def save_call(random, subject, model):
+    output = octets(random.randbytes(room(random, len(model.image()))))
+    told = subject.call("save", output=output)
+    expected, written = model.save(output.length)
+    expect(f"save in {output.length} bytes", (told, bytes(output.values()[: len(written)])), (expected, written))
+
+
+def load_call(random, subject, model):
+    image = choices.image(random, model)
+    expect(f"load({image.hex()})", subject.call("load", image=octets(image))[0], model.load(image))
+
+
+def step(random, subject, model, name):
+    """One call on the library and the model."""
+    if name in ("mark", "clear"):
+        pixel = choices.pixel(random, model)
+        expect(f"{name}{pixel}", subject.call(name, *pixel)[0], getattr(model, name)(*pixel))
+    elif name == "ask":
+        pixel = choices.pixel(random, model)
+        expect(f"ask{pixel}", subject.call("ask", *pixel), model.ask(*pixel))
+    elif name == "count":
+        window = choices.window(random, model)
+        expect(f"count{window}", subject.call("count", *window), model.count(*window))
+    elif name == "check":
+        expect("check of a sound store", subject.call("check"), (0, 1, 0))
+    else:
+        {"list": list_call, "save": save_call, "load": load_call}[name](random, subject, model)
+
+
+def last_look(subject, model):
+    """The register as a whole: sound, its image, and every marked pixel."""
+    expect("check at the end", subject.call("check"), (0, 1, 0))
+    image = model.image()
+    output = octets(bytes(len(image)))
+    expect("the last save", (subject.call("save", output=output), bytes(output.values())), ((0, len(image), 0), image))
+    for pixel in choices.marked_and_beside(model):
+        expect(f"the last ask{pixel}", subject.call("ask", *pixel), model.ask(*pixel))
+    return image
+
+
+def same_image_elsewhere(random, model, image, tally):
+    """A register with another N that marks the same pixels in another order has the same image."""
+    n = random.randint(max(len(model.codes), 1), len(model.codes) + 20)
+    subject, other = made(random, model.order, model.k, n, tally), Model(model.order, model.k, n)
+    for code in random.sample(sorted(model.codes), len(model.codes)):
+        expect(f"mark{corner(code)} again", subject.call("mark", *corner(code))[0], other.mark(*corner(code)))
+    expect("the image of the same pixels", last_look(subject, other), image)
+
+
+def history(random, tally, steps):
+    """A whole history; steps counts for whoever looks at a difference."""
+    m, k, n = choices.sizes(random)
+    subject, model = made(random, m, k, n, tally), Model(m, k, n)
+    for _ in range(random.randint(1, 5)):
+        calls = random.choice(PHASES)
+        for _ in range(random.randint(5, 90)):
+            steps["step"] += 1
+            step(random, subject, model, random.choice(calls))
+    image = last_look(subject, model)
+    same_image_elsewhere(random, model, image, tally)
+    return subject, model

@@ -1,0 +1,159 @@
+"""A plain model of the register, written from its specification alone: a set of codes, and the blocks worked out anew from it.
+
+It shares nothing with the library or with python/: not even the interleaving. It answers as the calls do, (refusal, first, second).
+"""
+
+LIMITS = {"m": (1, 16), "k": (2, 16), "n": (1, 65535)}
+MARK = 0x504B0001
+
+
+def within(name, value):
+    low, high = LIMITS[name]
+    return low <= value <= high
+
+
+def words_needed(k, n):
+    if not (within("k", k) and within("n", n)):
+        return 0
+    slots = 1 + (n - 1) // (k - 1)
+    return 8 + slots * (8 + 10 * (k - 1))
+
+
+def interleave(x, y):
+    digits = zip(format(y, "016b"), format(x, "016b"))
+    return int("".join(a + b for a, b in digits), 2)
+
+
+def corner(code):
+    digits = format(code, "032b")
+    return int(digits[1::2], 2), int(digits[0::2], 2)
+
+
+class Tree:
+    """The instantiated blocks of a set, each as (level, code)."""
+
+    def __init__(self, order, k, codes):
+        self.k = k
+        self.blocks = []
+        self._elements(order, 0, sorted(codes), order)
+
+    def _elements(self, level, code, codes, order):
+        """The number of elements of a block; it is noted if it is instantiated."""
+        if level == 0:
+            return len(codes)
+        number = 0
+        for quarter in range(4):
+            low = code + quarter * 4 ** (level - 1)
+            inside = [c for c in codes if low <= c < low + 4 ** (level - 1)]
+            given = self._elements(level - 1, low, inside, order) if inside else 0
+            number += given if given < self.k else 1
+        if number >= self.k or level == order:
+            self.blocks.append((level, code))
+        return number
+
+
+def image_of(order, k, codes):
+    entries = [(code, 0) for code in codes] + [(code, level) for level, code in Tree(order, k, codes).blocks]
+    entries.sort(key=lambda entry: (entry[0], -entry[1]))
+    head = bytes((order, k)) + len(entries).to_bytes(4, "little") + len(codes).to_bytes(4, "little")
+    return head + b"".join(code.to_bytes(4, "little") for code, _ in entries) + bytes(level for _, level in entries)
+
+
+def judge_image(order, k, most, image):
+    """The refusal of an image, and its set."""
+    if len(image) < 10 or len(image) != 10 + 5 * int.from_bytes(image[2:6], "little"):
+        return 10, None
+    entries, pixels = int.from_bytes(image[2:6], "little"), int.from_bytes(image[6:10], "little")
+    if image[0] != order or image[1] != k or pixels > most:
+        return 11, None
+    codes = [int.from_bytes(image[10 + 4 * i : 14 + 4 * i], "little") for i in range(entries)]
+    levels = image[10 + 4 * entries :]
+    # an image's pixels are its entries of level 0, so no other set can have it
+    chosen = {code for code, level in zip(codes, levels) if level == 0}
+    if any(code >= 4**order for code in chosen) or image_of(order, k, chosen) != image:
+        return 12, None
+    return 0, chosen
+
+
+class Model:
+    """A register after an accepted make."""
+
+    def __init__(self, order, k, most):
+        self.order, self.k, self.most = order, k, most
+        self.codes = set()
+        self._tree = None
+
+    def tree(self):
+        if self._tree is None:
+            self._tree = Tree(self.order, self.k, self.codes)
+        return self._tree
+
+    def _on_panel(self, *coordinates):
+        return all(value < 2**self.order for value in coordinates)
+
+    def _become(self, codes):
+        self.codes, self._tree = codes, None
+        return 0
+
+    def mark(self, x, y):
+        if not self._on_panel(x, y):
+            return 4
+        if interleave(x, y) in self.codes:
+            return 5
+        if len(self.codes) >= self.most:
+            return 6
+        return self._become(self.codes | {interleave(x, y)})
+
+    def clear(self, x, y):
+        if not self._on_panel(x, y):
+            return 4
+        if interleave(x, y) not in self.codes:
+            return 7
+        return self._become(self.codes - {interleave(x, y)})
+
+    def load(self, image):
+        refusal, codes = judge_image(self.order, self.k, self.most, image)
+        return refusal or self._become(codes)
+
+    def ask(self, x, y):
+        if not self._on_panel(x, y):
+            return 4, 0, 0
+        code = interleave(x, y)
+        opened = sum(low <= code < low + 4**level for level, low in self.tree().blocks)
+        return 0, int(code in self.codes), opened
+
+    def window(self, x0, y0, x1, y1):
+        """The refusal of a window, the codes found in it, and the blocks that share a pixel with it."""
+        if not self._on_panel(x0, y0, x1, y1):
+            return 4, [], 0
+        if x0 > x1 or y0 > y1:
+            return 8, [], 0
+        found = [code for code in sorted(self.codes) if x0 <= corner(code)[0] <= x1 and y0 <= corner(code)[1] <= y1]
+        return 0, found, sum(self._shares(block, x0, y0, x1, y1) for block in self.tree().blocks)
+
+    @staticmethod
+    def _shares(block, x0, y0, x1, y1):
+        level, code = block
+        x, y = corner(code)
+        return x <= x1 and x0 < x + 2**level and y <= y1 and y0 < y + 2**level
+
+    def count(self, *window):
+        refusal, found, opened = self.window(*window)
+        return refusal, len(found), opened
+
+    def list(self, *window, room):
+        """The answer, and the codes that are written, in any order."""
+        refusal, found, opened = self.window(*window)
+        if not refusal and len(found) > room:
+            return (9, len(found), 0), []
+        return (refusal, len(found), opened), found
+
+    def image(self):
+        return image_of(self.order, self.k, self.codes)
+
+    def save(self, room):
+        """The answer, and the bytes that are written."""
+        image = self.image()
+        if len(image) > room:
+            return (9, len(image), 0), b""
+        return (0, len(image), 0), image

@@ -1,0 +1,86 @@
+"""The library's calls on one lent store. Each call is held to what is true of every call, whatever the store holds."""
+
+import collections
+
+from lent import LIBRARY, words
+from model import words_needed
+
+CHANGING = ("make", "mark", "clear", "load")
+REFUSALS = {
+    "make": (1, 2),
+    "mark": (3, 4, 5, 6, 13),
+    "clear": (3, 4, 7, 13),
+    "load": (3, 10, 11, 12),
+    "ask": (3, 4, 13),
+    "count": (3, 4, 8, 13),
+    "list": (3, 4, 8, 9, 13),
+    "save": (3, 9, 13),
+    "check": (3,),
+}
+
+
+class Difference(Exception):
+    """What a call gave, and what was expected of it."""
+
+
+def expect(what, got, expected):
+    if got != expected:
+        raise Difference(f"{what}\n  library: {got}\n  model:   {expected}")
+
+
+class Subject:
+    """A store and the calls on it; every call and refusal is counted."""
+
+    def __init__(self, values, tally=None):
+        self.store = words(values)
+        self.tally = tally if tally is not None else collections.Counter()
+
+    def made(self, m, k, n):
+        """make; the formula's end is kept, since no call may write past it."""
+        return self.call("make", m, k, n, end=words_needed(k, n))[0]
+
+    def end(self):
+        """The formula's end by the words' own k and N, or the whole store where they say none."""
+        known = self.store.length >= 4 and words_needed(self.store[2], self.store[3])
+        return min(known or self.store.length, self.store.length)
+
+    def call(self, name, *numbers, image=None, output=None, end=None):
+        """The answer as (refusal, first, second)."""
+        end = self.end() if end is None else end
+        before, untouched = self.store.content(), None if output is None else output.content()
+        lent = [*self.store.arguments, *numbers]
+        for part in (image, output):
+            lent += part.arguments if part is not None else ()
+        answer = getattr(LIBRARY, "pk_" + name)(*lent)
+        told = (answer, 0, 0) if name in CHANGING else (answer.refusal, answer.first, answer.second)
+        self.tally[name] += 1
+        self.tally[told[0]] += 1
+        self._hold(name, numbers, told, before, end)
+        if output is not None:
+            self._hold_output(name, told, output, untouched)
+        return told
+
+    def _hold(self, name, numbers, told, before, end):
+        what = f"pk_{name}{numbers} gives {told}"
+        refusal = told[0]
+        expect(f"{what}: a refusal of this call", refusal == 0 or refusal in REFUSALS[name], True)
+        if refusal == 13 and name in ("mark", "clear"):
+            expect(f"{what}: word 0", self.store[0], 0)
+        elif refusal or name not in CHANGING:
+            expect(f"{what}: the store is unchanged", self.store.content() == before, True)
+        expect(f"{what}: words past the formula are untouched", self.store.same_from(end, before), True)
+        if refusal == 9:
+            expect(f"{what}: second", told[2], 0)
+        elif refusal:
+            expect(f"{what}: zeros", told[1:], (0, 0))
+
+    @staticmethod
+    def _hold_output(name, told, output, untouched):
+        refusal, first, _ = told
+        if refusal == 0:
+            expect(f"pk_{name}: {first} of {output.length} fit", first <= output.length, True)
+            expect(f"pk_{name}: the rest of the output", output.same_from(first, untouched), True)
+        elif refusal == 13:
+            expect(f"pk_{name}: past the output", output.same_from(output.length, untouched), True)
+        else:
+            expect(f"pk_{name}: the output is unchanged", output.content() == untouched, True)
