@@ -1,15 +1,12 @@
 use register::Asking;
 use register::Counting;
 use register::Outcome;
+use register::refusal_of;
 
 // A refusal's number; 0 is accepted.
 pub fn print_number(outcome: Outcome) {
-    let number = match outcome {
-        Outcome::Done => 0,
-        Outcome::Refused(refusal) => refusal,
-    };
     io::write_all(1, b" ");
-    io::print_decimal(1, number as u64);
+    io::print_decimal(1, refusal_of(outcome) as u64);
 }
 
 pub fn mark(store: &mut [u32], code: u32) {

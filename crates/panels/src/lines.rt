@@ -7,28 +7,51 @@ use crate::entries::print;
 use register::Listing;
 use store::slots::wide;
 
+fn mark_all(store: &mut [u32], codes: &[u32]) {
+    for i in 0..codes.len() {
+        mark(store, codes[i]);
+    }
+}
+
+// A register with these codes, and its entries.
+fn made(store: &mut [u32], m: u32, k: u32, n: u32, codes: &[u32]) {
+    make(store, m, k, n);
+    mark_all(store, codes);
+    print(store);
+}
+
+fn then_mark(store: &mut [u32], title: &[u8], code: u32) {
+    io::write_all(1, title);
+    mark(store, code);
+    print(store);
+}
+
 // m = 3, k = 3, N = 9: codes 0, 1, 2, 60; what is asked of them; then clear code 1.
 pub fn first_panel() {
     let mut store = [0u32; 148];
+    let codes = [0u32, 1, 2, 60];
     io::write_all(1, b"codes 0, 1, 2, 60:");
-    print_number(register::make(&mut store, 3, 3, 9));
-    mark(&mut store, 0);
-    mark(&mut store, 1);
-    mark(&mut store, 2);
-    mark(&mut store, 60);
-    print(&store);
+    made(&mut store, 3, 3, 9, &codes);
+    first_panel_asked(&store);
+    first_panel_cleared(&mut store);
+}
+
+fn first_panel_asked(store: &[u32]) {
     io::write_all(1, b"ask (1, 1):");
-    ask(&store, 1, 1);
+    ask(store, 1, 1);
     io::write_all(1, b"\nask (3, 3):");
-    ask(&store, 3, 3);
+    ask(store, 3, 3);
     io::write_all(1, b"\nwindow 4,4 to 7,7:");
-    count(&store, 4, 4, 7, 7);
-    list(&store);
+    count(store, 4, 4, 7, 7);
+    list(store);
     io::write_all(1, b"\nask x = 8:");
-    ask(&store, 8, 0);
+    ask(store, 8, 0);
+}
+
+fn first_panel_cleared(store: &mut [u32]) {
     io::write_all(1, b"\nclear code 1:");
-    clear(&mut store, 1);
-    print(&store);
+    clear(store, 1);
+    print(store);
 }
 
 // The codes in the window 4,4 to 7,7; the word after them is left alone.
@@ -58,77 +81,73 @@ fn print_word(words: &[u32], at: usize) {
 // N = 4 has two slots: the block that turns underfull hands its slot to the one that is formed in it.
 pub fn slot_handed_on() {
     let mut store = [0u32; 64];
+    let codes = [0u32, 1, 4];
     io::write_all(1, b"codes 0, 1, 4, N = 4:");
-    print_number(register::make(&mut store, 3, 3, 4));
-    mark(&mut store, 0);
-    mark(&mut store, 1);
-    mark(&mut store, 4);
-    print(&store);
-    io::write_all(1, b"mark 2:");
-    mark(&mut store, 2);
-    print(&store);
+    made(&mut store, 3, 3, 4, &codes);
+    then_mark(&mut store, b"mark 2:", 2);
 }
 
 // The root alone with 8 = 4(k-1) elements is not full.
 pub fn full_root() {
     let mut store = [0u32; 148];
+    let codes = [0u32, 1, 16, 17, 32, 33, 48, 49];
     io::write_all(1, b"codes 0, 1, 16, 17, 32, 33, 48, 49:");
-    print_number(register::make(&mut store, 3, 3, 9));
-    mark(&mut store, 0);
-    mark(&mut store, 1);
-    mark(&mut store, 16);
-    mark(&mut store, 17);
-    mark(&mut store, 32);
-    mark(&mut store, 33);
-    mark(&mut store, 48);
-    mark(&mut store, 49);
-    print(&store);
-    io::write_all(1, b"mark 4:");
-    mark(&mut store, 4);
-    print(&store);
+    made(&mut store, 3, 3, 9, &codes);
+    then_mark(&mut store, b"mark 4:", 4);
 }
 
 pub fn smallest_panel() {
-    let mut store = [0u32; 80];
+    let mut empty = [0u32; 80];
+    let mut full = [0u32; 80];
+    let codes = [0u32, 1, 2, 3];
     io::write_all(1, b"m = 1, k = 2, empty:");
-    print_number(register::make(&mut store, 1, 2, 4));
-    print(&store);
+    made(&mut empty, 1, 2, 4, &codes[..0]);
     io::write_all(1, b"m = 1, k = 2, all four:");
-    mark(&mut store, 0);
-    mark(&mut store, 1);
-    mark(&mut store, 2);
-    mark(&mut store, 3);
-    print(&store);
+    made(&mut full, 1, 2, 4, &codes);
 }
 
 // A pixel by its coordinates, printed by its code.
 pub fn codes() {
     let mut store = [0u32; 148];
     io::write_all(1, b"(5, 3):");
-    print_number(register::make(&mut store, 3, 3, 9));
-    print_number(register::mark(&mut store, 5, 3));
-    print(&store);
+    pixel_by_code(&mut store, 3, 5, 3);
     io::write_all(1, b"(65535, 65535) on m = 16:");
-    print_number(register::make(&mut store, 16, 3, 9));
-    print_number(register::mark(&mut store, 65535, 65535));
-    print(&store);
+    pixel_by_code(&mut store, 16, 65535, 65535);
+}
+
+fn pixel_by_code(store: &mut [u32], m: u32, x: u32, y: u32) {
+    make(store, m, 3, 9);
+    print_number(register::mark(store, x, y));
+    print(store);
 }
 
 pub fn limits() {
     let mut store = [0u32; 148];
     let mut short = [0u32; 147];
     io::write_all(1, b"k = 3, N = 9, 148 and 147 words:");
-    print_number(register::make(&mut store, 3, 3, 9));
-    print_number(register::make(&mut short, 3, 3, 9));
+    make(&mut store, 3, 3, 9);
+    make(&mut short, 3, 3, 9);
+    beyond_limits(&mut store);
+}
+
+fn beyond_limits(store: &mut [u32]) {
     io::write_all(1, b"\nk = 1 and 17, m = 0 and 17, N = 0 and 65536:");
-    print_number(register::make(&mut store, 3, 1, 9));
-    print_number(register::make(&mut store, 3, 17, 9));
-    print_number(register::make(&mut store, 0, 3, 9));
-    print_number(register::make(&mut store, 17, 3, 9));
-    print_number(register::make(&mut store, 3, 3, 0));
-    print_number(register::make(&mut store, 3, 3, 65536));
+    make(store, 3, 1, 9);
+    make(store, 3, 17, 9);
+    make(store, 0, 3, 9);
+    make(store, 17, 3, 9);
+    make(store, 3, 3, 0);
+    make(store, 3, 3, 65536);
+    off_panel(store);
+}
+
+fn make(store: &mut [u32], m: u32, k: u32, n: u32) {
+    print_number(register::make(store, m, k, n));
+}
+
+fn off_panel(store: &mut [u32]) {
     io::write_all(1, b"\nmark x = 8:");
-    print_number(register::mark(&mut store, 8, 0));
+    print_number(register::mark(store, 8, 0));
     io::write_all(1, b"\n");
 }
 
@@ -136,11 +155,14 @@ pub fn limits() {
 pub fn full_register() {
     let mut store = [0u32; 36];
     io::write_all(1, b"N = 1: mark 5, 5, 6, clear 5, mark 6:");
-    print_number(register::make(&mut store, 3, 3, 1));
-    mark(&mut store, 5);
-    mark(&mut store, 5);
-    mark(&mut store, 6);
-    clear(&mut store, 5);
-    mark(&mut store, 6);
-    print(&store);
+    fill_and_clear(&mut store);
+}
+
+fn fill_and_clear(store: &mut [u32]) {
+    let codes = [5u32, 5, 6];
+    make(store, 3, 3, 1);
+    mark_all(store, &codes);
+    clear(store, 5);
+    mark(store, 6);
+    print(store);
 }
