@@ -8,7 +8,7 @@ use register::Saving;
 
 // The register's entries on one line, level/code, in image order: those of its saved image.
 pub fn print(store: &[u32]) {
-    let mut image = [0u8; 256];
+    let mut image = io::buffer();
     print_saved(store, &mut image);
 }
 

@@ -1,3 +1,5 @@
+ghost use mathlib.Core.Path.{_≡_};
+ghost use lib.ListN.{length};
 use crate::answers::ask;
 use crate::answers::clear;
 use crate::answers::count;
@@ -6,6 +8,19 @@ use crate::answers::print_number;
 use crate::entries::print;
 use register::Listing;
 use store::slots::wide;
+
+// Enough words for every panel here; a function gives them, so that no proof spells them out.
+fn words_148() -> [u32; 148]
+    ensures { λ r. ⌜ 148 ≡ length r ⌝ }
+{
+    [0u32; 148]
+}
+
+fn words_147() -> [u32; 147]
+    ensures { λ r. ⌜ 147 ≡ length r ⌝ }
+{
+    [0u32; 147]
+}
 
 fn mark_all(store: &mut [u32], codes: &[u32]) {
     for i in 0..codes.len() {
@@ -28,7 +43,7 @@ fn then_mark(store: &mut [u32], title: &[u8], code: u32) {
 
 // m = 3, k = 3, N = 9: codes 0, 1, 2, 60; what is asked of them; then clear code 1.
 pub fn first_panel() {
-    let mut store = [0u32; 148];
+    let mut store = words_148();
     let codes = [0u32, 1, 2, 60];
     io::write_all(1, b"codes 0, 1, 2, 60:");
     made(&mut store, 3, 3, 9, &codes);
@@ -80,7 +95,7 @@ fn print_word(words: &[u32], at: usize) {
 
 // N = 4 has two slots: the block that turns underfull hands its slot to the one that is formed in it.
 pub fn slot_handed_on() {
-    let mut store = [0u32; 64];
+    let mut store = words_148();
     let codes = [0u32, 1, 4];
     io::write_all(1, b"codes 0, 1, 4, N = 4:");
     made(&mut store, 3, 3, 4, &codes);
@@ -89,7 +104,7 @@ pub fn slot_handed_on() {
 
 // The root alone with 8 = 4(k-1) elements is not full.
 pub fn full_root() {
-    let mut store = [0u32; 148];
+    let mut store = words_148();
     let codes = [0u32, 1, 16, 17, 32, 33, 48, 49];
     io::write_all(1, b"codes 0, 1, 16, 17, 32, 33, 48, 49:");
     made(&mut store, 3, 3, 9, &codes);
@@ -97,8 +112,8 @@ pub fn full_root() {
 }
 
 pub fn smallest_panel() {
-    let mut empty = [0u32; 80];
-    let mut full = [0u32; 80];
+    let mut empty = words_148();
+    let mut full = words_148();
     let codes = [0u32, 1, 2, 3];
     io::write_all(1, b"m = 1, k = 2, empty:");
     made(&mut empty, 1, 2, 4, &codes[..0]);
@@ -108,7 +123,7 @@ pub fn smallest_panel() {
 
 // A pixel by its coordinates, printed by its code.
 pub fn codes() {
-    let mut store = [0u32; 148];
+    let mut store = words_148();
     io::write_all(1, b"(5, 3):");
     pixel_by_code(&mut store, 3, 5, 3);
     io::write_all(1, b"(65535, 65535) on m = 16:");
@@ -122,8 +137,8 @@ fn pixel_by_code(store: &mut [u32], m: u32, x: u32, y: u32) {
 }
 
 pub fn limits() {
-    let mut store = [0u32; 148];
-    let mut short = [0u32; 147];
+    let mut store = words_148();
+    let mut short = words_147();
     io::write_all(1, b"k = 3, N = 9, 148 and 147 words:");
     make(&mut store, 3, 3, 9);
     make(&mut short, 3, 3, 9);
@@ -153,7 +168,7 @@ fn off_panel(store: &mut [u32]) {
 
 // A marked pixel on a full register gives 5, another one 6; room from a cleared pixel counts.
 pub fn full_register() {
-    let mut store = [0u32; 36];
+    let mut store = words_148();
     io::write_all(1, b"N = 1: mark 5, 5, 6, clear 5, mark 6:");
     fill_and_clear(&mut store);
 }
