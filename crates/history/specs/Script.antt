@@ -17,8 +17,8 @@ callOf images call =
     (cond (eqb (call .number) 1) (clear (call .a) (call .b))
     (cond (eqb (call .number) 2) (ask (call .a) (call .b))
     (cond (eqb (call .number) 3) (count (call .a) (call .b) (call .c) (call .d))
-    (cond (eqb (call .number) 4) (list (call .a) (call .b) (call .c) (call .d) (zeros (call .e) 64))
-    (cond (eqb (call .number) 5) (save (zeros (call .e) 256))
+    (cond (eqb (call .number) 4) (list (call .a) (call .b) (call .c) (call .d) (zeros (call .e) 16))
+    (cond (eqb (call .number) 5) (save (zeros (call .e) 64))
     (cond (eqb (call .number) 6) (load (take (call .b) (drop (call .a) images))) check))))))
 
 abbrev pub encodedAt : List ℕ → ℕ → Encoded

@@ -21,19 +21,19 @@ pub struct Encoded {
 
 // list, with an output of its own.
 pub fn list_step(store: &[u32], call: Encoded)
-    ensures { λ _. ⌜ Step (list (call .a) (call .b) (call .c) (call .d) (zeros (call .e) 64)) (now (store .entry)) (now (store .entry)) ⌝ }
+    ensures { λ _. ⌜ Step (list (call .a) (call .b) (call .c) (call .d) (zeros (call .e) 16)) (now (store .entry)) (now (store .entry)) ⌝ }
 {
-    let mut output = [0u32; 64];
-    let n = wide(call.e % 65);
+    let mut output = [0u32; 16];
+    let n = wide(call.e % 17);
     register::list(store, call.a, call.b, call.c, call.d, &mut output[..n]);
 }
 
 // save, with an output of its own.
 pub fn save_step(store: &[u32], e: u32)
-    ensures { λ _. ⌜ Step (save (zeros e 256)) (now (store .entry)) (now (store .entry)) ⌝ }
+    ensures { λ _. ⌜ Step (save (zeros e 64)) (now (store .entry)) (now (store .entry)) ⌝ }
 {
-    let mut output = [0u8; 256];
-    let n = wide(e % 257);
+    let mut output = [0u8; 64];
+    let n = wide(e % 65);
     register::save(store, &mut output[..n]);
 }
 

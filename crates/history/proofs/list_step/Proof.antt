@@ -10,13 +10,13 @@ use Rattle.history.proofs.list_step.Statement.{statement}
 use Rattle.history.proofs.list_step.Tie as tie
 
 slice-aggregate-list : tie.Need-slice-aggregate-list
-slice-aggregate-list c = omega (arith, c .before .wide .ensures, length-take {A = ℕ} (c .before .wide .result) (replicate 64 0))
+slice-aggregate-list c = omega (arith, c .before .wide .ensures, length-take {A = ℕ} (c .before .wide .result) (replicate 16 0))
 
 returns : tie.Need-returns
 returns c =
     let args = c .before .before .before .before .before .before .args in
     let call = args .call in
-    subst (λ (n : ℕ). Step (list (call .a) (call .b) (call .c) (call .d) (take n (replicate 64 0))) (args .store .now) (args .store .now))
+    subst (λ (n : ℕ). Step (list (call .a) (call .b) (call .c) (call .d) (take n (replicate 16 0))) (args .store .now) (args .store .now))
     (c .before .before .before .wide .ensures)
     (list-step (args .store .now) (call .a) (call .b) (call .c) (call .d) _ _ (c .before .list .result) (c .before .list .ensures))
 

@@ -10,12 +10,12 @@ use Rattle.history.proofs.save_step.Statement.{statement}
 use Rattle.history.proofs.save_step.Tie as tie
 
 slice-aggregate-save : tie.Need-slice-aggregate-save
-slice-aggregate-save c = omega (arith, c .before .wide .ensures, length-take {A = ℕ} (c .before .wide .result) (replicate 256 0))
+slice-aggregate-save c = omega (arith, c .before .wide .ensures, length-take {A = ℕ} (c .before .wide .result) (replicate 64 0))
 
 returns : tie.Need-returns
 returns c =
     let args = c .before .before .before .before .before .args in
-    subst (λ (n : ℕ). Step (save (take n (replicate 256 0))) (args .store .now) (args .store .now)) (c .before .before .before .wide .ensures)
+    subst (λ (n : ℕ). Step (save (take n (replicate 64 0))) (args .store .now) (args .store .now)) (c .before .before .before .wide .ensures)
     (save-step (args .store .now) _ _ (c .before .save .result) (c .before .save .ensures))
 
 pub save-step-spec : {M : Type 1} → statement M
