@@ -89,7 +89,7 @@ pk_answer pk_ask(const uint32_t *store, size_t words, uint32_t x, uint32_t y);
    a pixel with it. Refusals 3, 4, 8, 13. */
 pk_answer pk_count(const uint32_t *store, size_t words, uint32_t x0, uint32_t y0, uint32_t x1, uint32_t y1);
 
-/* As pk_count, and writes the code of each found pixel once to the first words of the output; the rest of it is unchanged. With 9, first
+/* As pk_count, and writes the code of each found pixel once, rising, to the first words of the output; the rest is unchanged. With 9, first
    is the words needed; an output of n words is always long enough. Refusals 3, 4, 8, 9, 13. */
 pk_answer pk_list(const uint32_t *store, size_t words, uint32_t x0, uint32_t y0, uint32_t x1, uint32_t y1,
                   uint32_t *output, size_t output_words);
