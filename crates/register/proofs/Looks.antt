@@ -1,7 +1,7 @@
 -- What ask, count, list and save ensure, from what judges their refusals and what walks the store.
-use Prim.Native.Nat.{ℕ, _+_}
+use Prim.Native.Nat.{ℕ, _+_, _*_, _<_}
 use native.Mathlib.Omega.{arith}
-use native.Mathlib.Nat.{zero-add}
+use native.Mathlib.Nat.{zero-add, mul-pos}
 use mathlib.Core.Path.{_≡_, refl, ap, ap₂, subst, _∙_}
 use mathlib.Core.Logic.{inl, inr}
 use mathlib.Core.Bool.{Bool}
@@ -12,7 +12,7 @@ use Rattle.pktree.specs.Tree.{tree}
 use Rattle.pktree.specs.Window.{found, openedByPixel, openedByWindow}
 use Rattle.pktree.proofs.Absurd.{zero-is-not-one}
 use Rattle.store.specs.declared.sizes.Sizes.{Sizes}
-use Rattle.store.specs.Sizes.{panelOf, slotWidth, sizesOf, UsableStore}
+use Rattle.store.specs.Sizes.{panelOf, slotCount, slotWidth, sizesOf, UsableStore}
 use Rattle.store.specs.Slot.{slotPart}
 use Rattle.store.specs.Opening.{CannotOpen}
 use Rattle.store.proofs.SlotWrites.{slot-word}
@@ -41,7 +41,8 @@ pub spoiled-shut : (words : List ℕ) → UsableStore words → Spoiled words �
 spoiled-shut words usable s says =
     let w = slotWidth (getD words 2 0) in
     let at : getD (slotPart w words 0) 0 0 ≡ getD words 8 0 = slot-word w 0 words 8 0 (omega arith) (omega arith) in
-    let ff : getD words 8 0 ≡ 0xFFFFFFFF = s 8 (omega arith) (omega (arith, usable .enough)) in
+    let some : 0 < slotCount (getD words 2 0) (getD words 3 0) * w = mul-pos (omega arith) (omega arith) in
+    let ff : getD words 8 0 ≡ 0xFFFFFFFF = s 8 (omega arith) (omega (arith, some)) in
     omega (arith, at, ff, says .level-is, usable .valid .panel .order-to)
 
 module _ (words : List ℕ) (x y : ℕ) where
