@@ -8,13 +8,14 @@ LIBRARY = build/libpkreg.a build/libpkreg.so build/pkreg.h
 SOURCES = crates.txt $(shell find crates -name '*.rt' -o -name '*.antt')
 SEED = 1
 
-.PHONY: help lib demo test soak clean
+.PHONY: help lib demo test soak bench clean
 
 help:
 	@echo 'make lib    build/: libpkreg.a, libpkreg.so and pkreg.h, proved before they are built'
 	@echo 'make demo   the C example: two laboratories mask a dark frame, and their files are the same'
 	@echo 'make test   the examples and the command line against expected output, and the calls against a model'
 	@echo 'make soak   ten times as many random calls against the model; make soak SEED=7 begins elsewhere'
+	@echo 'make bench  times and instructions beside other sets of pixels; needs libboost-dev, libroaring-dev and valgrind (no part of the gate)'
 	@echo 'make clean  removes build/'
 
 lib: $(LIBRARY)
@@ -53,6 +54,14 @@ test: build/dark_frame build/dark_frame_cpp
 
 soak: lib
 	$(PYTHON) tests/differential.py --seed $(SEED) --histories 8000
+
+# Debian's libboost-dev, libroaring-dev and valgrind; popcnt lets the bitmap count a word by one instruction.
+build/bench: bench/bench.cpp bench/sets.hpp bench/workload.hpp build/libpkreg.a build/pkreg.h
+	$(CXX) -std=c++17 $(CFLAGS) -mpopcnt -DBOOST_ALLOW_DEPRECATED_HEADERS -Ibuild -o $@ $< build/libpkreg.a -lroaring
+
+bench: build/bench
+	build/bench --seed $(SEED)
+	bench/instructions.sh
 
 clean:
 	rm -rf build
