@@ -4,18 +4,18 @@ use native.Mathlib.Omega.{arith}
 use mathlib.Core.Path.{_≡_, refl, ap₂, subst, sym, _∙_}
 use mathlib.Core.Bool.{Bool, true, false, _&&_}
 use mathlib.Core.List.{List, [], _∷_}
-use lib.Dec.{eqb, leb, ltb}
+use lib.Dec.{eqb, leb}
 use lib.ListN.{length}
 use borrow.Author.Tests.{leb-true, le-leb, ltb-true, lt-ltb, eqb-true, eq-eqb}
 use Rattle.pktree.specs.Lists.{Every}
-use Rattle.pktree.specs.Panel.{Panel, Valid, OnPanel}
+use Rattle.pktree.specs.Panel.{Panel, Valid, OnPanel, isOnPanel}
 use Rattle.pktree.specs.PixelSet.{Ascending, PixelSet}
 use Rattle.pktree.specs.Image.{image}
 use Rattle.pktree.proofs.Absurd.{zero-is-not-one}
 use Rattle.image.specs.Parts.{pixelsOf}
 use Rattle.image.proofs.ImageOfSet.{image-tells-pixels, image-is-well-formed}
 use Rattle.loading.specs.Loaded.{HasImage, SomeHasImage}
-use Rattle.history.specs.ImageTest.{ascends, allBelow, sameList, isImageOf}
+use Rattle.history.specs.ImageTest.{ascends, allOnPanel, sameList, isImageOf}
 
 -- both of two tests were true
 pub both-true : (a b : Bool) → (a && b) ≡ true → (a ≡ true) × (b ≡ true)
@@ -30,13 +30,15 @@ ascending-passes : (from : ℕ) (set : List ℕ) → Ascending from set → asce
 ascending-passes from [] h = refl
 ascending-passes from (c ∷ set) h = rw (le-leb from c (h .0)) (ascending-passes (suc c) set (h .1))
 
-below-says : (to : ℕ) (set : List ℕ) → allBelow to set ≡ true → Every (λ c. c < to) set
-below-says to [] e = tt
-below-says to (c ∷ set) e = let (p, q) = both-true (ltb c to) (allBelow to set) e in (ltb-true c to p, below-says to set q)
+on-panel-says : (panel : Panel) (set : List ℕ) → allOnPanel panel set ≡ true → Every (OnPanel panel) set
+on-panel-says panel [] e = tt
+on-panel-says panel (c ∷ set) e =
+    let (p, q) = both-true (isOnPanel panel c) (allOnPanel panel set) e in
+    (ltb-true c (4 ^ panel .order) p, on-panel-says panel set q)
 
-below-passes : (to : ℕ) (set : List ℕ) → Every (λ c. c < to) set → allBelow to set ≡ true
-below-passes to [] h = refl
-below-passes to (c ∷ set) h = rw (lt-ltb c to (h .0)) (below-passes to set (h .1))
+on-panel-passes : (panel : Panel) (set : List ℕ) → Every (OnPanel panel) set → allOnPanel panel set ≡ true
+on-panel-passes panel [] h = refl
+on-panel-passes panel (c ∷ set) h = rw (lt-ltb c (4 ^ panel .order) (h .0)) (on-panel-passes panel set (h .1))
 
 same-says : (a b : List ℕ) → sameList a b ≡ true → a ≡ b
 same-says [] [] e = refl
@@ -51,18 +53,18 @@ same-passes (x ∷ a) = rw (eq-eqb x x refl) (same-passes a)
 module _ (panel : Panel) (most : ℕ) (bytes : List ℕ) where
   pub test-says : (set : List ℕ) → isImageOf panel most bytes set ≡ true → HasImage panel most bytes set
   test-says set e =
-      let (p, q) = both-true (ascends 0 set && allBelow (4 ^ panel .order) set) (leb (length set) most && sameList (image panel set) bytes) e in
-      let (a, b) = both-true (ascends 0 set) (allBelow (4 ^ panel .order) set) p in
+      let (p, q) = both-true (ascends 0 set && allOnPanel panel set) (leb (length set) most && sameList (image panel set) bytes) e in
+      let (a, b) = both-true (ascends 0 set) (allOnPanel panel set) p in
       let (l, s) = both-true (leb (length set) most) (sameList (image panel set) bytes) q in
       record {
-        on-panel = record { ascending = ascends-says 0 set a; on-panel = below-says (4 ^ panel .order) set b };
+        on-panel = record { ascending = ascends-says 0 set a; on-panel = on-panel-says panel set b };
         room = leb-true (length set) most l;
         is = same-says (image panel set) bytes s;
       }
 
   test-passes : (set : List ℕ) → HasImage panel most bytes set → isImageOf panel most bytes set ≡ true
   test-passes set h =
-      rw (ascending-passes 0 set (h .on-panel .ascending), below-passes (4 ^ panel .order) set (h .on-panel .on-panel), le-leb (length set) most (h .room), ← h .is)
+      rw (ascending-passes 0 set (h .on-panel .ascending), on-panel-passes panel set (h .on-panel .on-panel), le-leb (length set) most (h .room), ← h .is)
       (same-passes (image panel set))
 
   -- the set that has this image is that of the entries of level 0

@@ -9,7 +9,7 @@ use lib.ListN.{length, getD}
 use borrow.Author.Tests.{ltb-true, ltb-false, lt-ltb}
 use denote.Ref.{now}
 use Rattle.morton.specs.Code.{codeOf}
-use Rattle.pktree.specs.Panel.{HasPixel}
+use Rattle.pktree.specs.Panel.{HasPixel, isPixel}
 use Rattle.pktree.specs.PixelSet.{member, added, removed}
 use Rattle.store.specs.declared.sizes.Sizes.{Sizes}
 use Rattle.store.specs.Sizes.{panelOf, sizesOf}
@@ -21,7 +21,7 @@ use Rattle.register.specs.Mark.{MarkMeets}
 use Rattle.register.specs.Clear.{ClearMeets}
 use Rattle.register.specs.Load.{LoadMeets}
 use Rattle.image.specs.Parts.{pixelsOf}
-use Rattle.history.specs.Survivors.{Call, mark, clear, ask, count, list, save, load, check, onPanel, isAdded, isRemoved, isReplaced, next}
+use Rattle.history.specs.Survivors.{Call, mark, clear, ask, count, list, save, load, check, isAdded, isRemoved, isReplaced, next}
 use Rattle.history.specs.Run.{Step, by-mark, by-clear, by-ask, by-count, by-list, by-save, by-load, by-check}
 use Rattle.history.proofs.ImageTests.{test-says, some-passes}
 
@@ -34,7 +34,7 @@ pub record InStep (sizes : Sizes) (set words : List ℕ) : Type 0 where
 both : {A : Type 0} {b : Bool} → b ≡ true → b ≡ false → A
 both e f = let z : _≡_ {A = ℕ} 1 0 = ap (λ (b : Bool). cond b 1 0) (sym e ∙ f) in absurd (omega (arith, z))
 
-on-panel : (sizes : Sizes) (x y : ℕ) → onPanel sizes x y ≡ true → HasPixel (panelOf sizes) x y
+on-panel : (sizes : Sizes) (x y : ℕ) → isPixel (panelOf sizes) x y ≡ true → HasPixel (panelOf sizes) x y
 on-panel sizes x y e = go (ltb x (2 ^ sizes .order)) refl (ltb y (2 ^ sizes .order)) refl
   where
     go : (p : Bool) → ltb x (2 ^ sizes .order) ≡ p → (q : Bool) → ltb y (2 ^ sizes .order) ≡ q → HasPixel (panelOf sizes) x y
@@ -42,7 +42,7 @@ on-panel sizes x y e = go (ltb x (2 ^ sizes .order)) refl (ltb y (2 ^ sizes .ord
     go true p false q = both e (rw (p, q))
     go false p q r = both e (rw p)
 
-off-panel : (sizes : Sizes) (x y : ℕ) → onPanel sizes x y ≡ false → HasPixel (panelOf sizes) x y → ⊥
+off-panel : (sizes : Sizes) (x y : ℕ) → isPixel (panelOf sizes) x y ≡ false → HasPixel (panelOf sizes) x y → ⊥
 off-panel sizes x y e h = both (rw (lt-ltb x (2 ^ sizes .order) (h .0), lt-ltb y (2 ^ sizes .order) (h .1))) e
 
 same-words : {sizes : Sizes} {set before after : List ℕ} → after ≡ before → InStep sizes set before → InStep sizes set after
@@ -60,9 +60,9 @@ module _ (before after : List ℕ) (x y : ℕ) (r : Outcome) (set : List ℕ) (h
   off-panel-leaves e left = same-words (left .unchanged (λ p. absurd (omega (arith, e, p))) (λ p. absurd (omega (arith, e, p)))) h
 
   mark-next : MarkMeets before after x y r → InStep (sizesOf before) (next (sizesOf before) set (mark x y)) after
-  mark-next m = go (onPanel (sizesOf before) x y) refl (member set (codeOf x y)) refl (ltb (length set) (getD before 3 0)) refl
+  mark-next m = go (isPixel (panelOf (sizesOf before)) x y) refl (member set (codeOf x y)) refl (ltb (length set) (getD before 3 0)) refl
     where
-      go : (p : Bool) → onPanel (sizesOf before) x y ≡ p → (q : Bool) → member set (codeOf x y) ≡ q → (t : Bool) → ltb (length set) (getD before 3 0) ≡ t
+      go : (p : Bool) → isPixel (panelOf (sizesOf before)) x y ≡ p → (q : Bool) → member set (codeOf x y) ≡ q → (t : Bool) → ltb (length set) (getD before 3 0) ≡ t
           → InStep (sizesOf before) (cond (p && (not q && t)) (added (codeOf x y) set) set) after
       go false p q e t f = off-panel-leaves (m .refusals .off-panel .1 (h .holds .sound .usable, off-panel (sizesOf before) x y p)) (m .left)
       go true p true e t f =
@@ -75,9 +75,9 @@ module _ (before after : List ℕ) (x y : ℕ) (r : Outcome) (set : List ℕ) (h
           record { holds = d .1; sized = d .2 }
 
   clear-next : ClearMeets before after x y r → InStep (sizesOf before) (next (sizesOf before) set (clear x y)) after
-  clear-next m = go (onPanel (sizesOf before) x y) refl (member set (codeOf x y)) refl
+  clear-next m = go (isPixel (panelOf (sizesOf before)) x y) refl (member set (codeOf x y)) refl
     where
-      go : (p : Bool) → onPanel (sizesOf before) x y ≡ p → (q : Bool) → member set (codeOf x y) ≡ q
+      go : (p : Bool) → isPixel (panelOf (sizesOf before)) x y ≡ p → (q : Bool) → member set (codeOf x y) ≡ q
           → InStep (sizesOf before) (cond (p && q) (removed (codeOf x y) set) set) after
       go false p q e = off-panel-leaves (m .refusals .off-panel .1 (h .holds .sound .usable, off-panel (sizesOf before) x y p)) (m .left)
       go true p false e =

@@ -1,11 +1,12 @@
 -- 01: the survivors of a list of calls after make. The machine is fed the numbers given to make and the calls with their arguments, but no
 -- answer and no word of the store.
-use Prim.Native.Nat.{ℕ, _^_}
+use Prim.Native.Nat.{ℕ}
 use mathlib.Core.Bool.{Bool, _&&_, not, cond}
 use mathlib.Core.List.{List, [], _∷_}
 use lib.Dec.{ltb}
 use lib.ListN.{length}
 use Rattle.morton.specs.Code.{codeOf}
+use Rattle.pktree.specs.Panel.{isPixel}
 use Rattle.pktree.specs.PixelSet.{member, added, removed}
 use Rattle.store.specs.declared.sizes.Sizes.{Sizes}
 use Rattle.store.specs.Sizes.{panelOf}
@@ -23,17 +24,13 @@ pub data Call : Type 0 where
   load : List ℕ → Call
   check : Call
 
--- the pixel is on the panel
-abbrev pub onPanel : Sizes → ℕ → ℕ → Bool
-onPanel sizes x y = ltb x (2 ^ sizes .order) && ltb y (2 ^ sizes .order)
-
 -- 01: mark adds a pixel that is on the panel, not yet in the set, and when the set has fewer than N
 abbrev pub isAdded : Sizes → List ℕ → ℕ → ℕ → Bool
-isAdded sizes set x y = onPanel sizes x y && (not (member set (codeOf x y)) && ltb (length set) (sizes .most))
+isAdded sizes set x y = isPixel (panelOf sizes) x y && (not (member set (codeOf x y)) && ltb (length set) (sizes .most))
 
 -- 01: clear removes a pixel in the set
 abbrev pub isRemoved : Sizes → List ℕ → ℕ → ℕ → Bool
-isRemoved sizes set x y = onPanel sizes x y && member set (codeOf x y)
+isRemoved sizes set x y = isPixel (panelOf sizes) x y && member set (codeOf x y)
 
 -- 01: load replaces the set by the image's when its bytes are the image, with this m and k, of some set of at most N pixels on the panel; the
 -- one set that they can be the image of is that of their entries of level 0

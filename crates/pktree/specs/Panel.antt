@@ -1,6 +1,8 @@
 -- 01 "Panel, pixel, code" and "Blocks": a panel of order m, with the number k of its tree.
 use Prim.Native.Nat.{ℕ, _/_, _*_, _^_, _≤_, _<_}
 use mathlib.Core.Path.{_≡_}
+use mathlib.Core.Bool.{Bool, _&&_}
+use lib.Dec.{ltb}
 
 pub record Panel : Type 0 where
   pub order : ℕ
@@ -20,6 +22,13 @@ HasPixel panel x y = (x < 2 ^ panel .order) × (y < 2 ^ panel .order)
 -- the same of a pixel's code
 abbrev pub OnPanel : Panel → ℕ → Type 0
 OnPanel panel code = code < 4 ^ panel .order
+
+-- both as tests
+abbrev pub isPixel : Panel → ℕ → ℕ → Bool
+isPixel panel x y = ltb x (2 ^ panel .order) && ltb y (2 ^ panel .order)
+
+abbrev pub isOnPanel : Panel → ℕ → Bool
+isOnPanel panel code = ltb code (4 ^ panel .order)
 
 -- a code that a block of this level can have
 abbrev pub Aligned : ℕ → ℕ → Type 0

@@ -6,8 +6,9 @@ use mathlib.Core.List.{List}
 use lib.Pow.{pow-mono}
 use Rattle.morton.specs.Code.{codeOf}
 use Rattle.morton.proofs.Codes.{interleave-below}
+use Rattle.pktree.specs.Panel.{OnPanel}
 use Rattle.store.specs.declared.sizes.Sizes.{Sizes}
-use Rattle.store.specs.Sizes.{sizesOf, UsableStore}
+use Rattle.store.specs.Sizes.{panelOf, sizesOf, UsableStore}
 use Rattle.refusals.specs.Judged.{HasPixelOn}
 
 -- the sizes that were read are those of a usable store
@@ -22,5 +23,5 @@ pub side-of-order
     → (1 * 2 ^ sizes .order % 4294967296 ≡ 2 ^ sizesOf words .order) × (2 ^ sizesOf words .order ≤ 65536)
 side-of-order known = let p : 2 ^ _ ≤ 2 ^ 16 = pow-mono (known .1 .valid .panel .order-to) in rw (known .0) (omega arith)
 
-pub code-on-panel : {words : List ℕ} {sizes : Sizes} {x y code : ℕ} → Known words sizes → HasPixelOn words x y → code ≡ codeOf x y → code < 4 ^ sizes .order
+pub code-on-panel : {words : List ℕ} {sizes : Sizes} {x y code : ℕ} → Known words sizes → HasPixelOn words x y → code ≡ codeOf x y → OnPanel (panelOf sizes) code
 code-on-panel {x = x} {y = y} known on is = rw (is, known .0) (interleave-below 16 _ x y (on .0) (on .1))

@@ -1,10 +1,10 @@
 -- 01 "Who is refused, and how": 3, 4 and 8, in this order, each with its condition.
-use Prim.Native.Nat.{ℕ, _^_, _≤_, _<_}
+use Prim.Native.Nat.{ℕ, _≤_}
 use mathlib.Core.Path.{_≡_}
 use mathlib.Core.Logic.{_⊎_}
 use mathlib.Core.List.{List}
 use Rattle.morton.specs.Code.{codeOf}
-use Rattle.pktree.specs.Panel.{HasPixel}
+use Rattle.pktree.specs.Panel.{HasPixel, OnPanel}
 use Rattle.store.specs.declared.sizes.Sizes.{Sizes}
 use Rattle.store.specs.Sizes.{panelOf, sizesOf, UsableStore}
 use Rattle.refusals.specs.declared.PixelJudged.{PixelJudged}
@@ -21,7 +21,7 @@ pub record PixelGiven (words : List ℕ) (x y : ℕ) (sizes : Sizes) (code : ℕ
   pub sizes-are : sizes ≡ sizesOf words
   pub on-panel : HasPixelOn words x y
   pub code-is : code ≡ codeOf x y
-  pub code-below : code < 4 ^ sizes .order
+  pub code-on-panel : OnPanel (panelOf sizes) code
 
 abbrev pub PixelRefused : List ℕ → ℕ → ℕ → ℕ → Type 0
 PixelRefused words x y n = ((n ≡ 3) × (UsableStore words → ⊥)) ⊎ ((n ≡ 4) × UsableStore words × (HasPixelOn words x y → ⊥))

@@ -18,33 +18,14 @@ use Rattle.update.specs.Changed.{MarkAnswer, ClearAnswer}
 use Rattle.register.specs.declared.Outcome.the-variants as outcome
 use Rattle.register.specs.Answer.{Answer, accepted, refused}
 use Rattle.register.specs.Spoiled.{Spoiled}
-use Rattle.register.specs.Change.{PixelRefusals, WordsLeft}
+use Rattle.register.specs.Pixel.{PixelRefusals}
+use Rattle.register.specs.Change.{WordsLeft}
 use Rattle.register.specs.Mark.{MarkMeets}
 use Rattle.register.specs.Clear.{ClearMeets}
-use Rattle.register.proofs.Looks.{spoiled-shut}
+use Rattle.register.proofs.Pixels.{spoiled-shut, pixel-refused, never-refused-pixel, pixel-given}
 
 module _ (before after : List ℕ) (x y : ℕ) where
-  pixel-refused : (n : ℕ) → PixelRefused before x y n → PixelRefusals before x y (refused n)
-  pixel-refused n (inl (e, fails)) =
-      record {
-        unusable = ((λ z. fails), (λ z. e));
-        off-panel = ((λ z. absurd (omega arith)), (λ g. absurd (fails (g .0))));
-        spoiled = λ u on s. absurd (fails u);
-        values = (refl, refl);
-      }
-  pixel-refused n (inr (e, u, off)) =
-      record {
-        unusable = ((λ z. absurd (omega arith)), (λ fails. absurd (fails u)));
-        off-panel = ((λ z. (u, off)), (λ g. e));
-        spoiled = λ v on s. absurd (off on);
-        values = (refl, refl);
-      }
-
-  -- such a refusal's condition fails where an answer is due, and it is not 13
-  never-refused : (n : ℕ) → PixelRefused before x y n → UsableStore before → HasPixelOn before x y → ⊥
-  never-refused n (inl (e, fails)) u on = fails u
-  never-refused n (inr (e, v, off)) u on = off on
-
+  -- such a refusal is not 13
   never-13 : (n : ℕ) → PixelRefused before x y n → n ≡ 13 → ⊥
   never-13 n (inl (e, fails)) = omega arith
   never-13 n (inr (e, v, off)) = omega arith
@@ -68,34 +49,29 @@ module _ (before after : List ℕ) (x y : ℕ) where
   pub mark-refused : (n : ℕ) → PixelRefused before x y n → after ≡ before → MarkMeets before after x y (outcome.Refused n)
   mark-refused n h same =
       record {
-        refusals = pixel-refused n h;
-        else-answered = λ u on. absurd (never-refused n h u on);
-        already = λ set holds on m. absurd (never-refused n h (holds .sound .usable) on);
-        full = λ set holds on m l. absurd (never-refused n h (holds .sound .usable) on);
-        marked = λ set holds on m l. absurd (never-refused n h (holds .sound .usable) on);
+        refusals = pixel-refused before x y n h;
+        else-answered = λ u on. absurd (never-refused-pixel before x y n h u on);
+        values = (refl, refl);
+        already = λ set holds on m. absurd (never-refused-pixel before x y n h (holds .sound .usable) on);
+        full = λ set holds on m l. absurd (never-refused-pixel before x y n h (holds .sound .usable) on);
+        marked = λ set holds on m l. absurd (never-refused-pixel before x y n h (holds .sound .usable) on);
         left = left-same (refused n) (never-13 n h) same;
       }
 
   pub clear-refused : (n : ℕ) → PixelRefused before x y n → after ≡ before → ClearMeets before after x y (outcome.Refused n)
   clear-refused n h same =
       record {
-        refusals = pixel-refused n h;
-        else-answered = λ u on. absurd (never-refused n h u on);
-        unmarked = λ set holds on m. absurd (never-refused n h (holds .sound .usable) on);
-        cleared = λ set holds on m. absurd (never-refused n h (holds .sound .usable) on);
+        refusals = pixel-refused before x y n h;
+        else-answered = λ u on. absurd (never-refused-pixel before x y n h u on);
+        values = (refl, refl);
+        unmarked = λ set holds on m. absurd (never-refused-pixel before x y n h (holds .sound .usable) on);
+        cleared = λ set holds on m. absurd (never-refused-pixel before x y n h (holds .sound .usable) on);
         left = left-same (refused n) (never-13 n h) same;
       }
 
   module _ (sizes : Sizes) (code : ℕ) (p : PixelGiven before x y sizes code) where
-    -- neither refusal applies
-    pixel-given : (n : ℕ) → (n ≡ 3 → ⊥) → (n ≡ 4 → ⊥) → (Spoiled before → n ≡ 13) → PixelRefusals before x y (refused n)
-    pixel-given n n3 n4 s =
-        record {
-          unusable = ((λ z. absurd (n3 z)), (λ fails. absurd (fails (p .usable))));
-          off-panel = ((λ z. absurd (n4 z)), (λ g. absurd (g .1 (p .on-panel))));
-          spoiled = λ u on. s;
-          values = (refl, refl);
-        }
+    refusals-of : (n : ℕ) → (n ≡ 3 → ⊥) → (n ≡ 4 → ⊥) → (Spoiled before → n ≡ 13) → PixelRefusals before x y (refused n)
+    refusals-of n = pixel-given before x y sizes code p (refused n)
 
     mark-here : (r : Marking) → MarkAnswer before after code r → MarkAnswer before after (codeOf x y) r
     mark-here r a = subst (λ (c : ℕ). MarkAnswer before after c r) (p .code-is) a
@@ -107,8 +83,9 @@ module _ (before after : List ℕ) (x y : ℕ) where
     mark-done b =
         let a = mark-here marking.Marked b in
         record {
-          refusals = pixel-given 0 (omega arith) (omega arith) (λ s. zero-is-not-one (cc (a .closed (spoiled-shut before (p .usable) s))));
+          refusals = refusals-of 0 (omega arith) (omega arith) (λ s. zero-is-not-one (cc (a .closed (spoiled-shut before (p .usable) s))));
           else-answered = λ u on. inl refl;
+          values = (refl, refl);
           already = λ set holds on m. zero-is-not-one (cc (m, a .sound set holds .0));
           full = λ set holds on m l. absurd (omega (arith, l, a .sound set holds .1));
           marked = λ set holds on m l. let s = a .sound set holds in (refl, s .2, s .3);
@@ -119,8 +96,9 @@ module _ (before after : List ℕ) (x y : ℕ) where
     mark-already b =
         let a = mark-here marking.Already b in
         record {
-          refusals = pixel-given 5 (omega arith) (omega arith) (λ s. zero-is-not-one (cc (a .closed (spoiled-shut before (p .usable) s))));
+          refusals = refusals-of 5 (omega arith) (omega arith) (λ s. zero-is-not-one (cc (a .closed (spoiled-shut before (p .usable) s))));
           else-answered = λ u on. inr (inl refl);
+          values = (refl, refl);
           already = λ set holds on m. refl;
           full = λ set holds on m l. zero-is-not-one (cc (m, a .sound set holds .0));
           marked = λ set holds on m l. zero-is-not-one (cc (m, a .sound set holds .0));
@@ -131,8 +109,9 @@ module _ (before after : List ℕ) (x y : ℕ) where
     mark-full b =
         let a = mark-here marking.Full b in
         record {
-          refusals = pixel-given 6 (omega arith) (omega arith) (λ s. zero-is-not-one (cc (a .closed (spoiled-shut before (p .usable) s))));
+          refusals = refusals-of 6 (omega arith) (omega arith) (λ s. zero-is-not-one (cc (a .closed (spoiled-shut before (p .usable) s))));
           else-answered = λ u on. inr (inr (inl refl));
+          values = (refl, refl);
           already = λ set holds on m. zero-is-not-one (cc (m, a .sound set holds .0));
           full = λ set holds on m l. refl;
           marked = λ set holds on m l. absurd (omega (arith, l, a .sound set holds .1));
@@ -142,8 +121,9 @@ module _ (before after : List ℕ) (x y : ℕ) where
     pub mark-damaged : MarkAnswer before after code marking.Damaged → MarkMeets before after x y (outcome.Refused 13)
     mark-damaged a =
         record {
-          refusals = pixel-given 13 (omega arith) (omega arith) (λ s. refl);
+          refusals = refusals-of 13 (omega arith) (omega arith) (λ s. refl);
           else-answered = λ u on. inr (inr (inr refl));
+          values = (refl, refl);
           already = λ set holds on m. absurd (a .sound set holds);
           full = λ set holds on m l. absurd (a .sound set holds);
           marked = λ set holds on m l. absurd (a .sound set holds);
@@ -154,8 +134,9 @@ module _ (before after : List ℕ) (x y : ℕ) where
     clear-done b =
         let a = clear-here clearing.Cleared b in
         record {
-          refusals = pixel-given 0 (omega arith) (omega arith) (λ s. zero-is-not-one (cc (a .closed (spoiled-shut before (p .usable) s))));
+          refusals = refusals-of 0 (omega arith) (omega arith) (λ s. zero-is-not-one (cc (a .closed (spoiled-shut before (p .usable) s))));
           else-answered = λ u on. inl refl;
+          values = (refl, refl);
           unmarked = λ set holds on m. zero-is-not-one (cc (m, a .sound set holds .0));
           cleared = λ set holds on m. let s = a .sound set holds in (refl, s .1, s .2);
           left = left-changed (a .past) (a .long);
@@ -165,8 +146,9 @@ module _ (before after : List ℕ) (x y : ℕ) where
     clear-unmarked b =
         let a = clear-here clearing.Unmarked b in
         record {
-          refusals = pixel-given 7 (omega arith) (omega arith) (λ s. zero-is-not-one (cc (a .closed (spoiled-shut before (p .usable) s))));
+          refusals = refusals-of 7 (omega arith) (omega arith) (λ s. zero-is-not-one (cc (a .closed (spoiled-shut before (p .usable) s))));
           else-answered = λ u on. inr (inl refl);
+          values = (refl, refl);
           unmarked = λ set holds on m. refl;
           cleared = λ set holds on m. zero-is-not-one (cc (m, a .sound set holds .0));
           left = left-same (refused 7) (omega arith) (a .leaves);
@@ -175,8 +157,9 @@ module _ (before after : List ℕ) (x y : ℕ) where
     pub clear-damaged : ClearAnswer before after code clearing.Damaged → ClearMeets before after x y (outcome.Refused 13)
     clear-damaged a =
         record {
-          refusals = pixel-given 13 (omega arith) (omega arith) (λ s. refl);
+          refusals = refusals-of 13 (omega arith) (omega arith) (λ s. refl);
           else-answered = λ u on. inr (inr refl);
+          values = (refl, refl);
           unmarked = λ set holds on m. absurd (a .sound set holds);
           cleared = λ set holds on m. absurd (a .sound set holds);
           left = left-damaged (a .leaves) (a .past) (a .long);

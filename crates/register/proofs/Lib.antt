@@ -1,4 +1,5 @@
 pub mod Makes
+pub mod Pixels
 pub mod Looks
 pub mod Changes
 pub mod Loads

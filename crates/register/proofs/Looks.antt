@@ -35,48 +35,26 @@ use Rattle.register.specs.Ask.{AskMeets}
 use Rattle.register.specs.Count.{windowGiven, InOrder, WindowRefusals, CountMeets}
 use Rattle.register.specs.List.{ListMeets}
 use Rattle.register.specs.Save.{SaveMeets}
-
--- a spoiled store's root is no block of the panel
-pub spoiled-shut : (words : List ℕ) → UsableStore words → Spoiled words → CannotOpen (slotWidth (getD words 2 0)) words 0 (getD words 1 0) 0
-spoiled-shut words usable s says =
-    let w = slotWidth (getD words 2 0) in
-    let at : getD (slotPart w words 0) 0 0 ≡ getD words 8 0 = slot-word w 0 words 8 0 (omega arith) (omega arith) in
-    let some : 0 < slotCount (getD words 2 0) (getD words 3 0) * w = mul-pos (omega arith) (omega arith) in
-    let ff : getD words 8 0 ≡ 0xFFFFFFFF = s 8 (omega arith) (omega (arith, some)) in
-    omega (arith, at, ff, says .level-is, usable .valid .panel .order-to)
+use Rattle.register.proofs.Pixels.{spoiled-shut, pixel-refused, never-refused-pixel, pixel-given}
 
 module _ (words : List ℕ) (x y : ℕ) where
   pub ask-refused : (n : ℕ) → PixelRefused words x y n → AskMeets words x y (asking.Refused n)
-  ask-refused n (inl (e, fails)) =
+  ask-refused n h =
       record {
-        unusable = ((λ z. fails), (λ z. e));
-        off-panel = ((λ z. absurd (omega arith)), (λ g. absurd (fails (g .0))));
-        else-answered = λ u on. absurd (fails u);
+        refusals = pixel-refused words x y n h;
+        else-answered = λ u on. absurd (never-refused-pixel words x y n h u on);
         zeros = λ z. (refl, refl);
-        spoiled = λ u on s. absurd (fails u);
         bounded = λ v. omega arith;
-        sound = λ set holds on. absurd (fails (holds .sound .usable));
-      }
-  ask-refused n (inr (e, u, off)) =
-      record {
-        unusable = ((λ z. absurd (omega arith)), (λ fails. absurd (fails u)));
-        off-panel = ((λ z. (u, off)), (λ g. e));
-        else-answered = λ v on. absurd (off on);
-        zeros = λ z. (refl, refl);
-        spoiled = λ v on s. absurd (off on);
-        bounded = λ v. omega arith;
-        sound = λ set holds on. absurd (off on);
+        sound = λ set holds on. absurd (never-refused-pixel words x y n h (holds .sound .usable) on);
       }
 
   module _ (sizes : Sizes) (code : ℕ) (p : PixelGiven words x y sizes code) where
     pub ask-known : (marked : Bool) (opened : ℕ) → AskAnswer words code (asked.Known marked opened) → AskMeets words x y (asking.Answered marked opened)
     ask-known marked opened a =
         record {
-          unusable = ((λ z. absurd (omega arith)), (λ fails. absurd (fails (p .usable))));
-          off-panel = ((λ z. absurd (omega arith)), (λ g. absurd (g .1 (p .on-panel))));
+          refusals = pixel-given words x y sizes code p _ (omega arith) (omega arith) (λ s. zero-is-not-one (cc (a .closed (spoiled-shut words (p .usable) s))));
           else-answered = λ u on. inl refl;
           zeros = λ z. absurd (z refl);
-          spoiled = λ u on s. zero-is-not-one (cc (a .closed (spoiled-shut words u s)));
           bounded = λ u. a .bounds;
           sound = λ set holds on.
               let e = a .sound set holds in
@@ -89,11 +67,9 @@ module _ (words : List ℕ) (x y : ℕ) where
     pub ask-damaged : AskAnswer words code asked.Damaged → AskMeets words x y (asking.Refused 13)
     ask-damaged a =
         record {
-          unusable = ((λ z. absurd (omega arith)), (λ fails. absurd (fails (p .usable))));
-          off-panel = ((λ z. absurd (omega arith)), (λ g. absurd (g .1 (p .on-panel))));
+          refusals = pixel-given words x y sizes code p _ (omega arith) (omega arith) (λ s. refl);
           else-answered = λ u on. inr refl;
           zeros = λ z. (refl, refl);
-          spoiled = λ u on s. refl;
           bounded = λ u. omega arith;
           sound = λ set holds on. zero-is-not-one (cc (a .sound set holds));
         }

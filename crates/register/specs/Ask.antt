@@ -1,7 +1,7 @@
 -- 01 "Calls": ask (store, x, y).
 use Prim.Native.Nat.{ℕ, _≤_}
 use mathlib.Core.Path.{_≡_}
-use mathlib.Core.Logic.{_⊎_, _↔_}
+use mathlib.Core.Logic.{_⊎_}
 use mathlib.Core.List.{List}
 use lib.ListN.{getD}
 use Rattle.morton.specs.Code.{codeOf}
@@ -13,17 +13,14 @@ use Rattle.store.specs.Sound.{Holds}
 use Rattle.refusals.specs.Judged.{HasPixelOn}
 use Rattle.register.specs.declared.Asking.{Asking}
 use Rattle.register.specs.Answer.{accepted, yesNo, askAnswer}
-use Rattle.register.specs.Spoiled.{Spoiled}
+use Rattle.register.specs.Pixel.{PixelRefusals}
 
 -- the store is lent for reading only, so no word of it changes
 pub record AskMeets (words : List ℕ) (x y : ℕ) (r : Asking) : Type 0 where
-  -- 3 and 4 exactly on their conditions, whatever the words are
-  pub unusable : (askAnswer r .refusal ≡ 3) ↔ (UsableStore words → ⊥)
-  pub off-panel : (askAnswer r .refusal ≡ 4) ↔ (UsableStore words × (HasPixelOn words x y → ⊥))
+  pub refusals : PixelRefusals words x y (askAnswer r)
   -- else an answer or 13; zeros beside every refusal
   pub else-answered : UsableStore words → HasPixelOn words x y → (askAnswer r .refusal ≡ 0) ⊎ (askAnswer r .refusal ≡ 13)
   pub zeros : (askAnswer r .refusal ≡ 0 → ⊥) → (askAnswer r .first ≡ 0) × (askAnswer r .second ≡ 0)
-  pub spoiled : UsableStore words → HasPixelOn words x y → Spoiled words → askAnswer r .refusal ≡ 13
   -- whatever the words are: never more blocks opened than the order m
   pub bounded : UsableStore words → askAnswer r .second ≤ getD words 1 0
   -- on a sound store: marked or not, and the instantiated blocks that contain the pixel

@@ -1,6 +1,7 @@
 pub mod Answer
 pub mod Make
 pub mod Spoiled
+pub mod Pixel
 pub mod Ask
 pub mod Count
 pub mod List

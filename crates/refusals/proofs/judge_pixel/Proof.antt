@@ -31,7 +31,7 @@ returns-4 c =
     let k = known (c .before .before .before) in
     let a = c .before .before .before .before .before .before .before .before .before .args in
     let on : HasPixelOn (a .store .now) (a .x) (a .y) = omega (arith, side-of-order k) in
-    record { usable = k .1; sizes-are = k .0; on-panel = on; code-is = c .code-of .ensures; code-below = code-on-panel k on (c .code-of .ensures) }
+    record { usable = k .1; sizes-are = k .0; on-panel = on; code-is = c .code-of .ensures; code-on-panel = code-on-panel k on (c .code-of .ensures) }
 
 pub judge-pixel-spec : {M : Type 1} → statement M
 judge-pixel-spec =

@@ -7,7 +7,7 @@ use Rattle.register.proofs.ask.Tie as tie
 ask-requires : tie.Need-ask-requires
 ask-requires c κs =
     let p = rw (c .before .sizes .given .1) at (c .before .before .before .judge-pixel .ensures) in
-    ((p .usable, p .sizes-are), p .code-below)
+    ((p .usable, p .sizes-are), p .code-on-panel)
 
 returns : tie.Need-returns
 returns c =

@@ -9,7 +9,7 @@ clear-requires : tie.Need-clear-requires
 clear-requires c κs =
     let s = c .before .before in
     let p = rw (s .sizes .given .1) at (s .before .before .judge-pixel .ensures) in
-    ((p .usable, p .sizes-are), p .code-below)
+    ((p .usable, p .sizes-are), p .code-on-panel)
 
 returns : tie.Need-returns
 returns c =
