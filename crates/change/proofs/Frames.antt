@@ -1,21 +1,16 @@
 -- The blocks around the one that is changed: what is right of them, and that the tree is right again once the changed block is.
-use Prim.Native.Nat.{ℕ, zero, suc, _+_, _-_, _*_, _/_, _^_, _≤_, _<_}
+use Prim.Native.Nat.{ℕ, zero, suc, _+_, _^_, _≤_, _<_}
 use native.Mathlib.Omega.{arith}
 use mathlib.Core.Path.{_≡_, refl, ap, ap₂, subst, sym, _∙_}
 use mathlib.Core.Logic.{_⊎_, inl, inr}
-use mathlib.Core.List.{List, [], _∷_, _++_, append-assoc}
-use lib.ListN.{length, length-append}
+use mathlib.Core.List.{List, [], _∷_}
 use Rattle.pktree.specs.Panel.{Aligned}
-use Rattle.pktree.specs.Elements.{Forest, empty, pixel, block, _⧺_, size}
-use Rattle.pktree.specs.Tree.{pixels}
-use Rattle.pktree.proofs.Forests.{size-join, pixels-join, blockCount, blockCount-join}
-use Rattle.pktree.proofs.Alignment.{aligned-root}
+use Rattle.pktree.specs.Elements.{Forest, block, _⧺_, size}
+use Rattle.pktree.proofs.Forests.{size-join}
 use Rattle.pktree.proofs.Arranged.{Arranged, LocallyRight, arranged-le}
-use Rattle.pktree.proofs.Regroup.{Disturbed}
-use Rattle.pktree.proofs.Edits.{keep-block, dissolve}
-use Rattle.store.specs.Placed.{Placed, nothing, pixelThen, blockThen, _⧻_, forestOf, slotsOf}
+use Rattle.pktree.proofs.Edits.{keep-block}
+use Rattle.store.specs.Placed.{Placed, nothing, blockThen, _⧻_, forestOf}
 use Rattle.store.proofs.PlacedJoin.{forest-join}
-use Rattle.store.proofs.BlockView.{arranged-block}
 use Rattle.descent.specs.Way.{Frame, plug}
 
 -- a block of level i and code d stands right between the elements of a block of the way
@@ -52,10 +47,6 @@ plug-root k m (f ∷ way) s i d es h = plug-root k m way (f .slot) (f .level) (f
 pub frames-level : (k m : ℕ) (way : List Frame) (i d : ℕ) → FramesRight k m way i d → i ≤ m
 frames-level k m [] i d h = omega arith
 frames-level k m (f ∷ way) i d h = omega (arith, frames-level k m way (f .level) (f .code) (h .1), h .0 .under)
-
-pub frames-aligned : (k m : ℕ) (way : List Frame) (i d : ℕ) → FramesRight k m way i d → Aligned i d
-frames-aligned k m [] i d h = subst (Aligned i) (sym (h .1)) (aligned-root i)
-frames-aligned k m (f ∷ way) i d h = h .0 .inner
 
 -- x lies in every block of the way
 pub frame-holds : (k m : ℕ) (f : Frame) (i d x : ℕ) → FrameRight k m f i d → d ≤ x → x < d + 4 ^ i → (f .code ≤ x) × (x < f .code + 4 ^ f .level)

@@ -1,6 +1,5 @@
 -- A register after its list of calls holds exactly the survivors.
 use Prim.Native.Nat.{ℕ}
-use mathlib.Core.Path.{_≡_}
 use mathlib.Core.List.{List, []}
 use Rattle.store.specs.declared.sizes.Sizes.{Sizes}
 use Rattle.history.specs.Survivors.{Call, next, surviving, survivors}

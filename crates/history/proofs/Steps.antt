@@ -1,9 +1,9 @@
 -- Each call keeps the store in step with the survivors.
-use Prim.Native.Nat.{ℕ, _^_, _≤_, _<_}
+use Prim.Native.Nat.{ℕ, _^_}
 use native.Mathlib.Omega.{arith}
 use mathlib.Core.Path.{_≡_, refl, ap, subst, sym, _∙_}
 use mathlib.Core.Bool.{Bool, true, false, _&&_, not, cond}
-use mathlib.Core.List.{List, [], _∷_}
+use mathlib.Core.List.{List}
 use lib.Dec.{ltb}
 use lib.ListN.{length, getD}
 use borrow.Author.Tests.{ltb-true, ltb-false, lt-ltb}
@@ -15,13 +15,13 @@ use Rattle.store.specs.declared.sizes.Sizes.{Sizes}
 use Rattle.store.specs.Sizes.{panelOf, sizesOf}
 use Rattle.store.specs.Sound.{Holds}
 use Rattle.register.specs.declared.Outcome.{Outcome}
-use Rattle.register.specs.Answer.{Answer, accepted, refused, answer}
+use Rattle.register.specs.Answer.{Answer, accepted, refused}
 use Rattle.register.specs.Change.{WordsLeft}
 use Rattle.register.specs.Mark.{MarkMeets}
 use Rattle.register.specs.Clear.{ClearMeets}
 use Rattle.register.specs.Load.{LoadMeets}
 use Rattle.image.specs.Parts.{pixelsOf}
-use Rattle.history.specs.Survivors.{Call, mark, clear, ask, count, list, save, load, check, isAdded, isRemoved, isReplaced, next}
+use Rattle.history.specs.Survivors.{Call, mark, clear, load, isReplaced, next}
 use Rattle.history.specs.Run.{Step, by-mark, by-clear, by-ask, by-count, by-list, by-save, by-load, by-check}
 use Rattle.history.proofs.ImageTests.{test-says, some-passes}
 

@@ -1,13 +1,12 @@
 -- 01, demand 3: one claim about every two lists of calls after make.
-use Prim.Native.Nat.{ℕ, _+_, _-_, _*_, _/_, _≤_, _<_}
+use Prim.Native.Nat.{ℕ, _+_, _-_, _*_, _/_, _≤_}
 use native.Mathlib.Omega.{arith}
 use native.Mathlib.Decide.{decLe}
 use mathlib.Core.Path.{_≡_, refl, ap, ap₂, subst, subst₂, sym, _∙_}
 use mathlib.Core.Logic.{_⊎_, inl, inr, _↔_}
-use mathlib.Core.List.{List, List·Memᴰ, _++_}
+use mathlib.Core.List.{List, List·Memᴰ}
 use lib.ListN.{length, take, drop}
 use lib.Seq.{take-at}
-use Rattle.pktree.specs.Panel.{Panel}
 use Rattle.pktree.specs.PixelSet.{member, PixelSet}
 use Rattle.pktree.specs.Elements.{Forest, size, gather}
 use Rattle.pktree.specs.Tree.{Instantiated, tree, pixels, blockOf, blocks}
@@ -19,13 +18,13 @@ use Rattle.pktree.proofs.BlockNumber as number
 use Rattle.pktree.proofs.Images.{image-determines-set}
 use Rattle.store.specs.declared.sizes.Sizes.{Sizes}
 use Rattle.store.specs.Sizes.{panelOf, sizesOf, ValidSizes}
-use Rattle.store.specs.Placed.{Placed, forestOf}
+use Rattle.store.specs.Placed.{forestOf}
 use Rattle.register.specs.declared.Saving.{Saving}
-use Rattle.register.specs.Answer.{Answer, accepted, short, saveAnswer}
+use Rattle.register.specs.Answer.{Answer, saveAnswer}
 use Rattle.register.specs.Save.{SaveMeets}
 use Rattle.history.specs.Survivors.{Call, survivors}
 use Rattle.history.specs.Run.{SaveRun, by-save, History}
-use Rattle.history.specs.Claim.{fullImage, HoldsSurvivors, TwoLists, EveryTwoLists}
+use Rattle.history.specs.Claim.{fullImage, HoldsSurvivors, EveryTwoLists}
 use Rattle.history.proofs.Steps.{InStep}
 use Rattle.history.proofs.Runs.{history-keeps}
 

@@ -2,19 +2,13 @@
 use Prim.Native.Nat.{ℕ, suc, _+_, _^_, _≤_, _<_}
 use native.Mathlib.Omega.{arith}
 use mathlib.Core.Path.{_≡_, refl}
-use mathlib.Core.List.{List, [], _∷_, _++_, append-assoc}
-use Rattle.pktree.specs.Elements.{Forest, empty, pixel, block, _⧺_}
+use mathlib.Core.List.{List, [], _∷_, _++_}
+use Rattle.pktree.specs.Elements.{Forest, empty, pixel, block}
 use Rattle.pktree.specs.Entries.{Entry, entry, entries}
 use Rattle.pktree.proofs.Alignment.{pow-pos}
 use Rattle.pktree.proofs.Arranged.{Arranged, arranged-le}
 use Rattle.image.specs.Reading.{entriesFrom, EntryIs, EntryInside, From}
 use Rattle.image.proofs.EntriesFrom.{entry-first, first-entry}
-
--- joined elements have their entries joined
-pub entries-join : (f g : Forest) → entries (f ⧺ g) ≡ entries f ++ entries g
-entries-join empty g = refl
-entries-join (pixel c f) g = rw (entries-join f g)
-entries-join (block i c es f) g = rw (entries-join f g, append-assoc (entries es) (entries f) (entries g))
 
 pub from-lower : (low high : ℕ) (rest : List Entry) → low ≤ high → From high rest → From low rest
 from-lower low high [] h f = tt

@@ -1,5 +1,5 @@
 -- Reading what a quarter gives: itself where its entry claims it, and its elements otherwise.
-use Prim.Native.Nat.{ℕ, zero, suc, _+_, _^_, _≤_, _<_}
+use Prim.Native.Nat.{ℕ, _+_, _^_, _≤_, _<_}
 use native.Mathlib.Omega.{arith}
 use native.Mathlib.Numerals.{add-one}
 use mathlib.Core.Path.{_≡_, ap, _∙_}
@@ -9,17 +9,12 @@ use lib.ListN.{length}
 use Rattle.pktree.specs.Elements.{Forest, empty, block, size, give, gather}
 use Rattle.pktree.specs.Entries.{Entry, entry, entries}
 use Rattle.pktree.proofs.Forests.{give-case, give-itself, give-elements}
-use Rattle.pktree.proofs.Arranged.{LocallyRight, size-in-range}
-use Rattle.pktree.proofs.LocalLaw.{gather-is-local}
+use Rattle.pktree.proofs.Arranged.{LocallyRight}
+use Rattle.pktree.proofs.LocalLaw.{level-of-many, gather-is-local}
 use Rattle.image.specs.declared.reader.ElementsRead.the-variants.{Elements, Wrong}
 use Rattle.image.specs.Reading.{entriesFrom, ClaimsBlock, CanReadBlock, quarterOf, From, ElementsMeet, QuarterMeets}
 use Rattle.image.proofs.EntriesFrom.{entry-first, first-entry}
 use Rattle.image.proofs.FirstEntry.{not-of-elements}
-
--- only a block above the pixels has k elements
-pub level-of-many : (k level code : ℕ) (es : Forest) → 2 ≤ k → LocallyRight k level code es → k ≤ size es → 1 ≤ level
-level-of-many k zero code es h right many = absurd (omega (arith, size-in-range k 0 code (code + 4 ^ 0) es (right .arranged)))
-level-of-many k (suc level) code es h right many = omega arith
 
 module _ {codes levels : List ℕ} {k level code at : ℕ} (can : CanReadBlock codes levels k level code at) where
   -- what the quarter gives, as it stands at its index

@@ -1,20 +1,18 @@
 -- The quarters of a block that are still to be read, and the rows that those read make.
 use Prim.Native.Nat.{ℕ, zero, suc, _+_, _*_, _^_, _≤_}
 use native.Mathlib.Omega.{arith}
-use mathlib.Core.Path.{_≡_, subst}
+use mathlib.Core.Path.{_≡_, refl, subst}
 use mathlib.Core.Bool.{Bool}
 use mathlib.Core.List.{List, _++_, append-assoc}
 use Rattle.pktree.specs.Panel.{Aligned}
-use Rattle.pktree.specs.Elements.{Forest, empty, block, _⧺_, give, gather}
+use Rattle.pktree.specs.Elements.{Forest, empty, _⧺_, give, gather}
 use Rattle.pktree.specs.Entries.{Entry, entries}
-use Rattle.pktree.proofs.Forests.{give-case, join-empty}
+use Rattle.pktree.proofs.Forests.{join-empty}
 use Rattle.pktree.proofs.Alignment.{aligned-next}
-use Rattle.pktree.proofs.Arranged.{LocallyRight, arranged-lift}
-use Rattle.pktree.proofs.Counting.{sparse-of-small}
-use Rattle.pktree.proofs.LocalLaw.{Row, gather-is-local}
+use Rattle.pktree.proofs.EntryOrder.{entries-join}
+use Rattle.pktree.proofs.LocalLaw.{given-row, gather-is-local}
 use Rattle.image.specs.Reading.{From}
-use Rattle.image.proofs.FirstEntry.{entries-join, from-lower, from-arranged}
-use Rattle.image.proofs.QuarterRead.{level-of-many}
+use Rattle.image.proofs.FirstEntry.{from-lower, from-arranged}
 
 -- what the last n quarters give, the first of them at this code
 unfoldable pub quarters : (ℕ → Bool) → ℕ → ℕ → ℕ → ℕ → Forest
@@ -28,19 +26,6 @@ gather-is-quarters marked k level code =
     let three : code + 2 * 4 ^ level + 4 ^ level ≡ code + 3 * 4 ^ level = omega arith in
     rw (two, three, join-empty (give k level (code + 3 * 4 ^ level) (gather marked k level (code + 3 * 4 ^ level))))
 
--- what a quarter with right elements gives is a row
-pub given-row : (k level code : ℕ) (es : Forest) → 2 ≤ k → Aligned level code → LocallyRight k level code es → Row k level code (code + 4 ^ level) (give k level code es)
-given-row k level code es h aligned right =
-    give-case (Row k level code (code + 4 ^ level)) k level code es
-    (λ few. record {
-      arranged = arranged-lift k level (suc level) code (code + 4 ^ level) es (omega arith) (right .arranged);
-      sparse = sparse-of-small k level es few;
-    })
-    (λ many. record {
-      arranged = (omega arith, omega arith, level-of-many k level code es h right many, many, aligned, right .sparse, right .arranged, omega arith);
-      sparse = sparse-of-small k level (block level code es empty) (omega arith);
-    })
-
 -- entries past the last quarter are past none of those before
 pub from-quarters : (marked : ℕ → Bool) (k level n code : ℕ) (rest : List Entry) → 2 ≤ k → Aligned level code → From (code + n * 4 ^ level) rest
     → From code (entries (quarters marked k level n code) ++ rest)
@@ -52,5 +37,5 @@ from-quarters marked k level (suc n) code rest h aligned past =
     let end : code + suc n * 4 ^ level ≡ code + 4 ^ level + n * 4 ^ level = omega arith in
     rw (entries-join (give k level code es) others, append-assoc (entries (give k level code es)) (entries others) rest)
     (from-arranged k (suc level) code (code + 4 ^ level) (give k level code es) (entries others ++ rest)
-    (given-row k level code es h aligned (gather-is-local marked k level code h aligned) .arranged)
+    (given-row k level code (code + 4 ^ level) es h refl aligned (gather-is-local marked k level code h aligned) .arranged)
     (from-quarters marked k level n (code + 4 ^ level) rest h (aligned-next level code aligned) (subst (λ (to : ℕ). From to rest) end past)))

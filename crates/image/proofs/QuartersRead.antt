@@ -11,13 +11,13 @@ use Rattle.pktree.specs.Entries.{Entry, entries}
 use Rattle.pktree.proofs.Forests.{size-join}
 use Rattle.pktree.proofs.Alignment.{aligned-next, aligned-down}
 use Rattle.pktree.proofs.Counting.{sparse-of-small}
-use Rattle.pktree.proofs.LocalLaw.{Row, row-join, gather-is-local}
+use Rattle.pktree.proofs.EntryOrder.{entries-join}
+use Rattle.pktree.proofs.LocalLaw.{Row, row-join, given-row, gather-is-local}
 use Rattle.image.specs.declared.reader.ElementsRead.the-variants.{Elements, Wrong}
 use Rattle.image.specs.Reading.{entriesFrom, quarterOf, From, ElementsMeet, QuarterMeets}
 use Rattle.image.proofs.EntriesFrom.{entries-past}
-use Rattle.image.proofs.FirstEntry.{entries-join}
 use Rattle.image.proofs.BlockRead.{local-read}
-use Rattle.image.proofs.Quarters.{quarters, gather-is-quarters, given-row, from-quarters}
+use Rattle.image.proofs.Quarters.{quarters, gather-is-quarters, from-quarters}
 
 -- of a block that stands at `at`: the last n quarters, from `place` on, stand at `next`, and `count` elements before them
 pub record LeftOf (codes levels : List ℕ) (k level code at count next place n : ℕ) (marked : ℕ → Bool) (rest : List Entry) : Type 0 where
@@ -93,7 +93,7 @@ module _ {codes levels : List ℕ} {k level code at : ℕ} (h : 2 ≤ k) where
       record {
         read = s .read ⧺ given;
         row = row-join k level code place (place + 4 ^ level) (s .aligned) (s .row)
-            (given-row k level place _ h (s .aligned) (gather-is-local (one .sound .marked) k level place h (s .aligned)));
+            (given-row k level place (place + 4 ^ level) _ h refl (s .aligned) (gather-is-local (one .sound .marked) k level place h (s .aligned)));
         entries-are = rw (entries-join (s .read) given, append-assoc (entries (s .read)) (entries given) (entriesFrom codes levels after), ← one .sound .entries-are) (s .entries-are);
         size-is = rw (size-join (s .read) given, s .size-is, one .sound .size-is);
         aligned = aligned-next level place (s .aligned);

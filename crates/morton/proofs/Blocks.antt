@@ -1,5 +1,5 @@
 -- An aligned block of 4 ^ i codes is an aligned square of side 2 ^ i.
-use mathlib.Core.Path.{_≡_, refl, sym, ap, _∙_}
+use mathlib.Core.Path.{_≡_, refl, ap, _∙_}
 use Prim.Native.Nat.{ℕ, zero, suc, _+_, _-_, _*_, _/_, _%_, _^_, _≤_, _<_}
 use native.Mathlib.Nat.{pow-suc, div-div-eq-div-mul, not-suc-le-zero, le-of-suc-le-suc, lt-of-not-le, sub-zero, div-one, suc-sub-suc}
 use native.Mathlib.Omega.{arith}
@@ -7,6 +7,13 @@ use lib.Pow.{pow-add}
 use Rattle.morton.specs.Code.{gatherBits, interleave}
 use Rattle.morton.specs.CommonLevel.{CommonLevel}
 use Rattle.morton.proofs.Codes.{div-suc}
+
+-- two bits for each level
+pub four-pow : (i : ℕ) → 2 ^ (2 * i) ≡ 4 ^ i
+four-pow zero = refl
+four-pow (suc i) =
+    let e : 2 ^ (2 * suc i) ≡ 2 ^ suc (suc (2 * i)) = ap (λ (n : ℕ). 2 ^ n) (omega arith) in
+    omega (arith, e, pow-suc 2 (suc (2 * i)), pow-suc 2 (2 * i), pow-suc 4 i, four-pow i)
 
 -- codes in one block are in one larger block
 pub block-up : (a b : ℕ) {i j : ℕ} → i ≤ j → a / 4 ^ i ≡ b / 4 ^ i → a / 4 ^ j ≡ b / 4 ^ j

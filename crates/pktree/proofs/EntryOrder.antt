@@ -1,17 +1,17 @@
 -- The entries of a tree ascend by code, at equal code the higher level first; those of level 0 are the pixels.
-use Prim.Native.Nat.{ℕ, zero, suc, _+_, _*_, _^_, _≤_, _<_}
+use Prim.Native.Nat.{ℕ, suc, _+_, _^_, _≤_, _<_}
 use native.Mathlib.Omega.{arith}
-use mathlib.Core.Path.{_≡_, refl, ap, ap₂, sym, _∙_}
+use mathlib.Core.Path.{_≡_, refl, ap, ap₂, _∙_}
 use mathlib.Core.Bool.{Bool, true, false, cond}
-use mathlib.Core.List.{List, [], _∷_, _++_, append-nil, append-assoc}
+use mathlib.Core.List.{List, [], _∷_, _++_, append-assoc}
 use lib.Dec.{eqb}
 use lib.ListN.{length, length-append}
 use borrow.Author.Tests.{ne-eqb}
 use Rattle.pktree.specs.Lists.{Every}
-use Rattle.pktree.specs.Panel.{Panel, Valid, OnPanel}
-use Rattle.pktree.specs.Elements.{Forest, empty, pixel, block, gather}
+use Rattle.pktree.specs.Panel.{Panel, Valid}
+use Rattle.pktree.specs.Elements.{Forest, empty, pixel, block, _⧺_, gather}
 use Rattle.pktree.specs.Tree.{tree, blocks, pixels}
-use Rattle.pktree.specs.Entries.{Entry, entry, entries, pixelEntries}
+use Rattle.pktree.specs.Entries.{Entry, entries, pixelEntries}
 use Rattle.pktree.proofs.Alignment.{pow-pos, aligned-root}
 use Rattle.pktree.proofs.Arranged.{Arranged, arranged-le}
 use Rattle.pktree.proofs.LocalLaw.{gather-is-local}
@@ -52,6 +52,12 @@ module _ (panel : Panel) (M : ℕ → Bool) (valid : Valid panel) where
 kept-join : (b : Bool) (c : ℕ) (l r : List ℕ) → cond b (c ∷ (l ++ r)) (l ++ r) ≡ cond b (c ∷ l) l ++ r
 kept-join true c l r = refl
 kept-join false c l r = refl
+
+-- each block comes before what is inside it, so joined elements have their entries joined
+pub entries-join : (f g : Forest) → entries (f ⧺ g) ≡ entries f ++ entries g
+entries-join empty g = refl
+entries-join (pixel c f) g = rw (entries-join f g)
+entries-join (block i c es f) g = rw (entries-join f g, append-assoc (entries es) (entries f) (entries g))
 
 pub pixel-entries-join : (a b : List Entry) → pixelEntries (a ++ b) ≡ pixelEntries a ++ pixelEntries b
 pixel-entries-join [] b = refl

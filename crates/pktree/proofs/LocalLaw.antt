@@ -4,9 +4,9 @@ use native.Mathlib.Omega.{arith}
 use native.Mathlib.Nat.{eq-or-lt-of-le}
 use native.Mathlib.Decide.{decLt}
 use mathlib.Core.Path.{_≡_, refl, ap, ap₂, subst, subst₂, sym, _∙_}
-use mathlib.Core.Bool.{Bool, true, false, cond, _||_, or-false}
+use mathlib.Core.Bool.{Bool, cond, _||_, or-false}
 use mathlib.Core.Logic.{_⊎_, inl, inr, _↔_}
-use mathlib.Core.List.{List, [], _∷_, _++_, append-nil}
+use mathlib.Core.List.{List, append-nil}
 use borrow.Author.Tests.{eq-eqb}
 use Rattle.pktree.specs.Panel.{Panel, Aligned}
 use Rattle.pktree.specs.PixelSet.{member}
@@ -15,7 +15,7 @@ use Rattle.pktree.specs.Tree.{tree, pixels}
 use Rattle.pktree.proofs.Forests.{give-case, cond-case, give-itself, give-elements}
 use Rattle.pktree.proofs.Alignment.{pow-pos, aligned-root, aligned-plus, aligned-next, aligned-down, blocks-nest}
 use Rattle.pktree.proofs.Counting.{countIn, Sparse, countIn-join, sparse-of-small}
-use Rattle.pktree.proofs.Arranged.{quarterLevel, Arranged, LocallyRight, arranged-le, arranged-lift, arranged-join, countIn-all, sparse-join, member-join, member-after, member-before}
+use Rattle.pktree.proofs.Arranged.{quarterLevel, Arranged, LocallyRight, arranged-le, arranged-lift, arranged-join, size-in-range, countIn-all, sparse-join, member-join, member-after, member-before}
 
 -- the set M is that of the pixels of f, from from to to
 abbrev pub MarkedAs : (ℕ → Bool) → Forest → ℕ → ℕ → Type 0
@@ -185,11 +185,10 @@ local-is-gather k L c es a h = local-determined (member (pixels es)) k L c es a 
 pub local-is-tree : (panel : Panel) (es : Forest) → LocallyRight (panel .k) (panel .order) 0 es → block (panel .order) 0 es empty ≡ tree panel (member (pixels es))
 local-is-tree panel es h = ap (λ (f : Forest). block (panel .order) 0 f empty) (local-is-gather (panel .k) (panel .order) 0 es (aligned-root (panel .order)) h)
 
--- the other way
-level-of-many : (M : ℕ → Bool) (k i c : ℕ) → 2 ≤ k → k ≤ size (gather M k i c) → 1 ≤ i
-unfolding gather
-level-of-many M k zero c h l = absurd (cond-case (λ (f : Forest). k ≤ size f → ⊥) (M c) (pixel c empty) empty (λ t p. omega arith) (λ t p. omega arith) l)
-level-of-many M k (suc i) c h l = omega arith
+-- the other way: only a block above the pixels has k elements
+pub level-of-many : (k l c : ℕ) (es : Forest) → 2 ≤ k → LocallyRight k l c es → k ≤ size es → 1 ≤ l
+level-of-many k zero c es h r p = absurd (omega (arith, size-in-range k 0 c (c + 4 ^ 0) es (r .arranged)))
+level-of-many k (suc l) c es h r p = omega arith
 
 -- elements of a block of level l + 1, between from and to
 pub record Row (k l from to : ℕ) (f : Forest) : Type 0 where
@@ -203,17 +202,17 @@ row-join k l from d to {f} {g} a u v =
       sparse = sparse-join k (suc l) l from d to f g a (u .arranged) (v .arranged) (u .sparse) (v .sparse);
     }
 
--- what a quarter gives
-given : (M : ℕ → Bool) (k l d e : ℕ) → 2 ≤ k → e ≡ d + 4 ^ l → Aligned l d → LocallyRight k l d (gather M k l d) → Row k l d e (give k l d (gather M k l d))
-given M k l d e h q a r =
-    give-case (Row k l d e) k l d (gather M k l d)
+-- what a quarter with right elements gives
+pub given-row : (k l d e : ℕ) (es : Forest) → 2 ≤ k → e ≡ d + 4 ^ l → Aligned l d → LocallyRight k l d es → Row k l d e (give k l d es)
+given-row k l d e es h q a r =
+    give-case (Row k l d e) k l d es
     (λ p. record {
-      arranged = rw q (arranged-lift k l (suc l) d (d + 4 ^ l) (gather M k l d) (omega arith) (r .arranged));
-      sparse = sparse-of-small k l (gather M k l d) p;
+      arranged = rw q (arranged-lift k l (suc l) d (d + 4 ^ l) es (omega arith) (r .arranged));
+      sparse = sparse-of-small k l es p;
     })
     (λ p. record {
-      arranged = (omega arith, omega arith, level-of-many M k l d h p, p, a, r .sparse, r .arranged, omega arith);
-      sparse = sparse-of-small k l (block l d (gather M k l d) empty) (omega arith);
+      arranged = (omega arith, omega arith, level-of-many k l d es h r p, p, a, r .sparse, r .arranged, omega arith);
+      sparse = sparse-of-small k l (block l d es empty) (omega arith);
     })
 
 pub gather-is-local : (M : ℕ → Bool) (k L c : ℕ) → 2 ≤ k → Aligned L c → LocallyRight k L c (gather M k L c)
@@ -228,10 +227,10 @@ gather-is-local M k (suc l) c h a =
     let a1 : Aligned l (c + 4 ^ l) = aligned-next l c a0 in
     let a2 : Aligned l (c + 2 * 4 ^ l) = aligned-plus l c 2 a0 in
     let a3 : Aligned l (c + 3 * 4 ^ l) = aligned-plus l c 3 a0 in
-    let g0 = given M k l c (c + 4 ^ l) h refl a0 (gather-is-local M k l c h a0) in
-    let g1 = given M k l (c + 4 ^ l) (c + 2 * 4 ^ l) h (omega arith) a1 (gather-is-local M k l (c + 4 ^ l) h a1) in
-    let g2 = given M k l (c + 2 * 4 ^ l) (c + 3 * 4 ^ l) h (omega arith) a2 (gather-is-local M k l (c + 2 * 4 ^ l) h a2) in
-    let g3 = given M k l (c + 3 * 4 ^ l) (c + 4 ^ suc l) h (omega arith) a3 (gather-is-local M k l (c + 3 * 4 ^ l) h a3) in
+    let g0 = given-row k l c (c + 4 ^ l) _ h refl a0 (gather-is-local M k l c h a0) in
+    let g1 = given-row k l (c + 4 ^ l) (c + 2 * 4 ^ l) _ h (omega arith) a1 (gather-is-local M k l (c + 4 ^ l) h a1) in
+    let g2 = given-row k l (c + 2 * 4 ^ l) (c + 3 * 4 ^ l) _ h (omega arith) a2 (gather-is-local M k l (c + 2 * 4 ^ l) h a2) in
+    let g3 = given-row k l (c + 3 * 4 ^ l) (c + 4 ^ suc l) _ h (omega arith) a3 (gather-is-local M k l (c + 3 * 4 ^ l) h a3) in
     let r = row-join k l c (c + 4 ^ l) (c + 4 ^ suc l) a1 g0 (row-join k l (c + 4 ^ l) (c + 2 * 4 ^ l) (c + 4 ^ suc l) a2 g1
     (row-join k l (c + 2 * 4 ^ l) (c + 3 * 4 ^ l) (c + 4 ^ suc l) a3 g2 g3)) in
     record { arranged = r .arranged; sparse = r .sparse }

@@ -8,8 +8,8 @@ use lib.ListN.{length, getD, drop}
 use Rattle.morton.specs.Code.{codeOf}
 use Rattle.pktree.proofs.Absurd.{zero-is-not-one}
 use Rattle.store.specs.declared.sizes.Sizes.{Sizes}
-use Rattle.store.specs.Sizes.{storeWords, sizesOf, UsableStore}
-use Rattle.refusals.specs.Judged.{HasPixelOn, PixelGiven, PixelRefused}
+use Rattle.store.specs.Sizes.{storeWords, sizesOf}
+use Rattle.refusals.specs.Judged.{PixelGiven, PixelRefused}
 use Rattle.update.specs.declared.marks.Marking.{Marking}
 use Rattle.update.specs.declared.marks.Marking.the-variants as marking
 use Rattle.update.specs.declared.marks.Clearing.{Clearing}

@@ -1,21 +1,18 @@
 -- What ask, count, list and save ensure, from what judges their refusals and what walks the store.
-use Prim.Native.Nat.{ℕ, _+_, _*_, _<_}
+use Prim.Native.Nat.{ℕ}
 use native.Mathlib.Omega.{arith}
-use native.Mathlib.Nat.{zero-add, mul-pos}
+use native.Mathlib.Nat.{zero-add}
 use mathlib.Core.Path.{_≡_, refl, ap, ap₂, subst, _∙_}
 use mathlib.Core.Logic.{inl, inr}
 use mathlib.Core.Bool.{Bool}
 use mathlib.Core.List.{List, _++_}
-use lib.ListN.{length, getD, drop}
+use lib.ListN.{length, drop}
 use Rattle.pktree.specs.PixelSet.{member}
 use Rattle.pktree.specs.Tree.{tree}
 use Rattle.pktree.specs.Window.{found, openedByPixel, openedByWindow}
 use Rattle.pktree.proofs.Absurd.{zero-is-not-one}
 use Rattle.store.specs.declared.sizes.Sizes.{Sizes}
-use Rattle.store.specs.Sizes.{panelOf, slotCount, slotWidth, sizesOf, UsableStore}
-use Rattle.store.specs.Slot.{slotPart}
-use Rattle.store.specs.Opening.{CannotOpen}
-use Rattle.store.proofs.SlotWrites.{slot-word}
+use Rattle.store.specs.Sizes.{panelOf, sizesOf, UsableStore}
 use Rattle.refusals.specs.Judged.{PixelGiven, PixelRefused, CornersOn, WindowGiven, WindowRefused}
 use Rattle.query.specs.declared.ask.Asked.the-variants as asked
 use Rattle.query.specs.Asking.{AskAnswer}

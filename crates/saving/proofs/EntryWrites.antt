@@ -6,16 +6,9 @@ use mathlib.Core.Path.{_≡_, refl, ap, ap₂, sym, _∙_}
 use mathlib.Core.List.{List, [], _∷_, _++_, append-assoc, append-nil}
 use lib.ListN.{length, take, drop, set, length-append, length-drop, length-set, take-append-drop}
 use lib.Seq.{sets, sets-eq, length-sets, take-at, drop-at, drop-drop, length-take-le}
-use Rattle.pktree.specs.Elements.{Forest, empty, pixel, block, _⧺_}
-use Rattle.pktree.specs.Entries.{Entry, entries}
+use Rattle.pktree.specs.Entries.{Entry}
 use Rattle.pktree.specs.Image.{fourBytes, codeBytes, levelBytes}
 use Rattle.saving.specs.Saving.{putFour, putEntry, putEntries, HeaderPut}
-
--- each block comes before what is inside it, so joined elements have their entries joined
-pub entries-join : (f g : Forest) → entries (f ⧺ g) ≡ entries f ++ entries g
-entries-join empty g = refl
-entries-join (pixel c f) g = rw (entries-join f g)
-entries-join (block i c es f) g = rw (entries-join f g, append-assoc (entries es) (entries f) (entries g))
 
 -- stores keep the length
 pub length-put-entry : (n at : ℕ) (output : List ℕ) (level code : ℕ) → length (putEntry n at output level code) ≡ length output

@@ -20,7 +20,8 @@ use Rattle.saving.specs.declared.Saved.the-variants.{Next, Damaged}
 use Rattle.saving.specs.Saving.{putEntry, EntriesPut, SaveElementRight}
 use Rattle.query.proofs.NextElement.{OneElement, is-pixel, is-block, Passed, none-passed, one-more-passed, all-passed}
 use Rattle.query.proofs.OpenedSlot.{SlotOpened}
-use Rattle.saving.proofs.EntryWrites.{entries-join, put-entries-append}
+use Rattle.pktree.proofs.EntryOrder.{entries-join}
+use Rattle.saving.proofs.EntryWrites.{put-entries-append}
 
 -- a block's own entry before those of its elements
 pub own-entry-first : {saving : Saving} {f : Forest} {before after : List ℕ} {level code at : ℕ} {r : Saved}
