@@ -6,8 +6,9 @@ pub mod ImageOfSet
 pub mod EntriesFrom
 pub mod FirstEntry
 pub mod BlockRead
-pub mod QuarterRead
+pub mod ElementRead
 pub mod Quarters
+pub mod QuarterRead
 pub mod QuartersRead
 pub mod PixelNumber
 pub mod ImageBytes

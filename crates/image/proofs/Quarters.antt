@@ -5,16 +5,20 @@ use mathlib.Core.Path.{_≡_, subst}
 use mathlib.Core.Bool.{Bool}
 use mathlib.Core.List.{List, _++_, append-assoc}
 use Rattle.pktree.specs.Panel.{Aligned}
-use Rattle.pktree.specs.Elements.{Forest, empty, block, _⧺_, give, gather}
+use Rattle.pktree.specs.Elements.{Forest, empty, block, _⧺_, size, give, gather}
 use Rattle.pktree.specs.Entries.{Entry, entries}
 use Rattle.pktree.proofs.Forests.{give-case, join-empty}
 use Rattle.pktree.proofs.Alignment.{aligned-next}
-use Rattle.pktree.proofs.Arranged.{LocallyRight, arranged-lift}
+use Rattle.pktree.proofs.Arranged.{LocallyRight, arranged-lift, size-in-range}
 use Rattle.pktree.proofs.Counting.{sparse-of-small}
 use Rattle.pktree.proofs.LocalLaw.{Row, gather-is-local}
 use Rattle.image.specs.Reading.{From}
 use Rattle.image.proofs.FirstEntry.{entries-join, from-lower, from-arranged}
-use Rattle.image.proofs.QuarterRead.{level-of-many}
+
+-- only a block above the pixels has k elements
+level-of-many : (k level code : ℕ) (es : Forest) → 2 ≤ k → LocallyRight k level code es → k ≤ size es → 1 ≤ level
+level-of-many k zero code es h right many = absurd (omega (arith, size-in-range k 0 code (code + 4 ^ 0) es (right .arranged)))
+level-of-many k (suc level) code es h right many = omega arith
 
 -- what the last n quarters give, the first of them at this code
 unfoldable pub quarters : (ℕ → Bool) → ℕ → ℕ → ℕ → ℕ → Forest

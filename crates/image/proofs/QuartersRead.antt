@@ -39,8 +39,8 @@ pub record QuartersRead (codes levels : List ℕ) (k level code at count next pl
       → From (code + 4 ^ suc level) rest → LeftOf codes levels k level code at count next place n marked rest
 
 module _ {codes levels : List ℕ} {k level code at : ℕ} (h : 2 ≤ k) where
-  pub none-read : Aligned (suc level) code → at ≤ length levels → QuartersRead codes levels k level code at 0 at code 4
-  none-read aligned to =
+  pub no-quarter-read : Aligned (suc level) code → at ≤ length levels → QuartersRead codes levels k level code at 0 at code 4
+  no-quarter-read aligned to =
       record {
         read = empty;
         row = record { arranged = omega arith; sparse = sparse-of-small k level empty (omega arith) };
@@ -115,10 +115,10 @@ module _ {codes levels : List ℕ} {k level code at : ℕ} (h : 2 ≤ k) where
             };
       }
 
-  pub quarter-read : {count next place more after : ℕ} (n : ℕ) → 0 < n → QuartersRead codes levels k level code at count next place n
+  pub next-quarter-read : {count next place more after : ℕ} (n : ℕ) → 0 < n → QuartersRead codes levels k level code at count next place n
       → QuarterMeets codes levels k level place next (Elements more after) → QuartersRead codes levels k level code at (count + more) after (place + 4 ^ level) (n - 1)
-  quarter-read zero some s one = absurd (omega arith)
-  quarter-read (suc n) some s one = let e : suc n - 1 ≡ n = omega arith in rw e (one-read n s one)
+  next-quarter-read zero some s one = absurd (omega arith)
+  next-quarter-read (suc n) some s one = let e : suc n - 1 ≡ n = omega arith in rw e (one-read n s one)
 
   pub all-read : {count next place : ℕ} → Aligned (suc level) code → QuartersRead codes levels k level code at count next place 0
       → ElementsMeet codes levels k (suc level) code at (Elements count next)
