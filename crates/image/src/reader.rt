@@ -3,7 +3,7 @@ ghost use mathlib.Core.Path.{_≡_};
 ghost use lib.ListN.{length};
 ghost use Rattle.store.specs.Decides.{Decides};
 ghost use Rattle.image.specs.Judged.{ImageOfSome};
-ghost use Rattle.image.specs.PixelCount.{zeros};
+ghost use Rattle.image.specs.PixelCount.{pixelLevels};
 ghost use Rattle.image.specs.Reading.{EntryIs, EntryInside, FitsQuarter, CanReadBlock, ElementsMeet, QuarterMeets, CanRead};
 use crate::parts::byte_at;
 use crate::parts::code_at;
@@ -173,7 +173,7 @@ pub fn read_element(
 
 // The number of entries of level 0.
 pub fn count_pixels(levels: &[u8]) -> usize
-    ensures { λ r. ⌜ r ≡ zeros (now (levels .entry)) ⌝ }
+    ensures { λ r. ⌜ r ≡ pixelLevels (now (levels .entry)) ⌝ }
 {
     let mut count = 0;
     let mut at = levels.len();
