@@ -5,7 +5,7 @@ pub mod EntryParts
 pub mod ImageOfSet
 pub mod EntriesFrom
 pub mod FirstEntry
-pub mod BlockRead
+pub mod ForestRead
 pub mod ElementRead
 pub mod Quarters
 pub mod QuarterRead

@@ -1,7 +1,7 @@
 -- What a quarter gives, read element by element.
 use Prim.Native.Nat.{ℕ, suc, _+_, _^_, _≤_, _<_}
 use native.Mathlib.Omega.{arith}
-use mathlib.Core.Path.{_≡_, refl, ap, ap₂, subst, subst₂, sym}
+use mathlib.Core.Path.{_≡_, refl, ap, ap₂, subst, subst₂}
 use mathlib.Core.Bool.{Bool, true}
 use mathlib.Core.List.{List, _++_, append-assoc}
 use lib.ListN.{length, length-append}
@@ -17,6 +17,7 @@ use Rattle.image.specs.declared.reader.ElementsRead.the-variants.{Elemen
 use Rattle.image.specs.Reading.{entriesFrom, EntryIs, EntryInside, FitsQuarter, CanReadBlock, quarterOf, From, QuarterMeets}
 use Rattle.image.proofs.EntriesFrom.{first-entry, entries-past}
 use Rattle.image.proofs.FirstEntry.{entries-join, from-arranged, nothing-inside, not-past}
+use Rattle.image.proofs.ForestRead.{forest-read}
 use Rattle.image.proofs.ElementRead.{pixel-given}
 use Rattle.image.proofs.Quarters.{given-row}
 
@@ -113,15 +114,10 @@ module _ {codes levels : List ℕ} {k level code at : ℕ} (can : CanReadBlock c
     pub quarter-read : (EntryInside codes levels next place (code + 4 ^ level) → ⊥) → QuarterMeets codes levels k level code at (Elements count next)
     quarter-read outside =
         let all : Arranged k (suc level) code (code + 4 ^ level) (s .read) = arranged-upper k (suc level) code place (code + 4 ^ level) (s .read) (s .place-to) (s .arranged) in
-        let own : s .read ≡ quarterOf k level code (member (pixels (s .read))) = few-are-given k level code (s .read) (can .aligned) all (omega (arith, s .size-is, s .few)) in
         record {
-          sound = record {
-            marked = member (pixels (s .read));
-            entries-are = subst (λ (f : Forest). entriesFrom codes levels at ≡ entries f ++ entriesFrom codes levels next) own (s .entries-are);
-            size-is = subst (λ (f : Forest). size f ≡ count) own (s .size-is);
-            count-to = omega (arith, s .few, can .k-to);
-            next-to = s .next-to;
-          };
+          sound = forest-read (quarterOf k level code) (s .read) (member (pixels (s .read)))
+              (few-are-given k level code (s .read) (can .aligned) all (omega (arith, s .size-is, s .few)))
+              (s .entries-are) (s .size-is) (omega (arith, s .few, can .k-to)) (s .next-to);
           complete = λ marked rest e past.
               let l = s .complete marked rest e past in
               let none : l .left ≡ empty = nothing-inside codes levels next k (suc level) place (code + 4 ^ level) (l .left) rest (l .arranged) (l .entries-left) outside in

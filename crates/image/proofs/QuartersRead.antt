@@ -6,17 +6,19 @@ use mathlib.Core.Bool.{Bool}
 use mathlib.Core.List.{List, _++_, append-assoc}
 use lib.ListN.{length, length-append}
 use Rattle.pktree.specs.Panel.{Aligned}
+use Rattle.pktree.specs.PixelSet.{member}
 use Rattle.pktree.specs.Elements.{Forest, empty, _⧺_, size, gather}
 use Rattle.pktree.specs.Entries.{Entry, entries}
+use Rattle.pktree.specs.Tree.{pixels}
 use Rattle.pktree.proofs.Forests.{size-join}
 use Rattle.pktree.proofs.Alignment.{aligned-next, aligned-down}
 use Rattle.pktree.proofs.Counting.{sparse-of-small}
-use Rattle.pktree.proofs.LocalLaw.{Row, row-join, gather-is-local}
+use Rattle.pktree.proofs.LocalLaw.{Row, row-join, local-is-gather, gather-is-local}
 use Rattle.image.specs.declared.reader.ElementsRead.the-variants.{Elements, Wrong}
-use Rattle.image.specs.Reading.{entriesFrom, quarterOf, From, ElementsMeet, QuarterMeets}
+use Rattle.image.specs.Reading.{entriesFrom, elementsOf, quarterOf, From, ElementsMeet, QuarterMeets}
 use Rattle.image.proofs.EntriesFrom.{entries-past}
 use Rattle.image.proofs.FirstEntry.{entries-join}
-use Rattle.image.proofs.BlockRead.{local-read}
+use Rattle.image.proofs.ForestRead.{forest-read}
 use Rattle.image.proofs.Quarters.{quarters, gather-is-quarters, given-row, from-quarters}
 
 -- of a block that stands at `at`: the last n quarters, from `place` on, stand at `next`, and `count` elements before them
@@ -127,7 +129,8 @@ module _ {codes levels : List ℕ} {k level code at : ℕ} (h : 2 ≤ k) where
       let end : place ≡ code + 4 ^ suc level = omega (arith, s .ends) in
       let row : Row k level code (code + 4 ^ suc level) (s .read) = subst (λ (to : ℕ). Row k level code to (s .read)) end (s .row) in
       record {
-        sound = local-read (s .read) aligned (record { arranged = row .arranged; sparse = row .sparse })
+        sound = forest-read (elementsOf k (suc level) code) (s .read) (member (pixels (s .read)))
+            (local-is-gather k (suc level) code (s .read) aligned (record { arranged = row .arranged; sparse = row .sparse }))
             (s .entries-are) (s .size-is) (omega (arith, s .count-to)) (s .next-to);
         complete = λ marked rest e past.
             let left = s .complete marked rest e past in ap₂ Elements (omega (arith, left .size-left)) (omega (arith, left .index-left));

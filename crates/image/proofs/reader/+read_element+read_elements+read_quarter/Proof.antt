@@ -11,7 +11,7 @@ use denote.Ref.{now}
 use Rattle.pktree.proofs.Alignment.{pow-pos}
 use Rattle.store.proofs.Decides.{decided-true, decided-false}
 use Rattle.image.specs.declared.reader.ElementsRead.{ElementsRead}
-use Rattle.image.specs.Reading.{EntryIs, EntryInside, FitsQuarter, CanReadBlock, ElementsMeet}
+use Rattle.image.specs.Reading.{EntryIs, EntryInside, FitsQuarter, ElementsMeet}
 use Rattle.image.proofs.BlockSize.{size-of-quarters}
 use Rattle.image.proofs.ElementRead.{pixel-read, claimed-wrong, claimed-few, claimed-read}
 use Rattle.image.proofs.QuarterRead.{PartRead, none-read, element-within, element-unfit, element-wrong, element-many, element-read, quarter-read}
@@ -244,11 +244,7 @@ read-quarter-is-inside-requires t c κs = c .before .before .before .before .pre
 -- the next entry lies in what is left of the quarter
 inside : (t : ℕ) (c : read-quarter-lts.Then1 (called-read-quarter t) (read-quarter-at t) read-quarter.Post read-quarter-Inv-loop read-quarter-μ-loop)
     → let a = c .before .before .before .before .before .before .args in let loop = c .before .before .loop in EntryInside (now (a .codes)) (now (a .levels)) (loop .next) (loop .place) (a .code + 4 ^ a .level)
-inside t c =
-    let a = c .before .before .before .before .before .before .args in
-    let loop = c .before .before .loop in
-    subst (λ (to : ℕ). EntryInside (now (a .codes)) (now (a .levels)) (loop .next) (loop .place) to) (omega (arith, c .before .before .before .block-size .ensures))
-    (decided-true (c .if1 .taken) (c .before .is-inside .ensures))
+inside t c = decided-true (c .if1 .taken) (rw (c .before .before .before .block-size .ensures) at (c .before .is-inside .ensures))
 
 read-quarter-byte-at-requires : (t : ℕ) → read-quarter-lts.Need-byte-at-requires (called-read-quarter t) (read-quarter-at t) read-quarter.Post read-quarter-Inv-loop read-quarter-μ-loop
 read-quarter-byte-at-requires t c κs = inside t c .below
@@ -351,11 +347,8 @@ read-quarter-loop-again t c =
 
 read-quarter-returns-4 : (t : ℕ) → read-quarter-lts.Need-returns-4 (called-read-quarter t) (read-quarter-at t) read-quarter.Post read-quarter-Inv-loop read-quarter-μ-loop
 read-quarter-returns-4 t c =
-    let a = c .before .before .before .before .before .before .args in
-    let loop = c .before .before .loop in
-    quarter-read (c .before .before .before .before .before .before .pre .1) (loop .inv)
-    (subst (λ (to : ℕ). EntryInside (now (a .codes)) (now (a .levels)) (loop .next) (loop .place) to → ⊥) (omega (arith, c .before .before .before .block-size .ensures))
-    (decided-false (c .if1 .left) (c .before .is-inside .ensures)))
+    quarter-read (c .before .before .before .before .before .before .pre .1) (c .before .before .loop .inv)
+    (decided-false (c .if1 .left) (rw (c .before .before .before .block-size .ensures) at (c .before .is-inside .ensures)))
 
 pub +read-element+read-elements+read-quarter-spec : {M : Type 1} → statement M
 +read-element+read-elements+read-quarter-spec = close μ-read-element μ-read-elements μ-read-quarter
