@@ -28,7 +28,7 @@ pub record EntryInside (codes levels : List ℕ) (at from to : ℕ) : Type 0 whe
   pub low : from ≤ fourAt codes (4 * at)
   pub high : fourAt codes (4 * at) < to
 
--- an element of this level and code, in a quarter of this level: it is no larger, and aligned
+-- an element of this level and code can stand in a quarter of level `quarter`: it is no larger, and aligned
 pub record FitsQuarter (quarter level code : ℕ) : Type 0 where
   pub level-to : level ≤ quarter
   pub aligned : Aligned level code

@@ -55,7 +55,7 @@ pub fn block_size(level: u32) -> usize
     1usize << (2 * level)
 }
 
-// Can an element of this level and code stand in a quarter of this level? It is no larger, and aligned.
+// Can an element of this level and code stand in a quarter of level `quarter`? It is no larger, and aligned.
 pub fn fits_quarter(quarter: u32, level: u32, code: usize) -> bool
     requires { ⌜ (quarter ≤ 16) × (code < 4294967296) ⌝ }
     ensures { λ r. ⌜ Decides r (FitsQuarter quarter level code) ⌝ }
@@ -101,7 +101,7 @@ pub fn read_elements(
     ElementsRead::Elements { count, next }
 }
 
-// What a quarter gives: the elements that lie in it one after another, fewer than k; a claimed quarter is the only one itself.
+// What a quarter gives: the elements in it, one after another, fewer than k; where its own entry claims it, the quarter is that one element.
 pub fn read_quarter(
     codes: &[u8],
     levels: &[u8],
@@ -140,7 +140,7 @@ pub fn read_quarter(
     ElementsRead::Elements { count, next }
 }
 
-// The element whose entry stands at this index: a pixel, or a block, and k elements or more must be in it.
+// The element whose entry stands at this index: a pixel, or a claimed block, and k elements or more must be in it.
 pub fn read_element(
     codes: &[u8],
     levels: &[u8],
