@@ -1,7 +1,7 @@
 -- The number of codes of a block, as the code makes it by a shift.
-use Prim.Native.Nat.{ℕ, zero, suc, _+_, _-_, _*_, _%_, _^_, _≤_}
+use Prim.Native.Nat.{ℕ, zero, suc, _+_, _-_, _*_, _/_, _%_, _^_, _≤_, _<_}
 use native.Mathlib.Omega.{arith}
-use native.Mathlib.Nat.{pow-le-pow-right}
+use native.Mathlib.Nat.{pow-le-pow-right, div-mul-le-self}
 use mathlib.Core.Path.{_≡_}
 use Rattle.morton.proofs.Blocks.{four-pow}
 
@@ -9,6 +9,10 @@ pub shifted-size : (level : ℕ) → level ≤ 16 → 1 * 2 ^ (2 * level) % 1844
 shifted-size level h =
     let p : 4 ^ level ≤ 4 ^ 16 = pow-le-pow-right (omega arith) h in
     omega (arith, four-pow level)
+
+-- a code without its bits below the level
+pub shifted-code : (level code : ℕ) → code < 18446744073709551616 → code / 2 ^ (2 * level) * 2 ^ (2 * level) % 18446744073709551616 ≡ code / 4 ^ level * 4 ^ level
+shifted-code level code h = rw (four-pow level) (omega (arith, div-mul-le-self code (4 ^ level)))
 
 -- a block has four times the codes of its quarter
 pub size-of-quarters : (level : ℕ) → 1 ≤ level → 4 ^ level ≡ 4 * 4 ^ (level - 1)

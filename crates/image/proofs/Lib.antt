@@ -5,9 +5,10 @@ pub mod EntryParts
 pub mod ImageOfSet
 pub mod EntriesFrom
 pub mod FirstEntry
-pub mod BlockRead
-pub mod QuarterRead
+pub mod ForestRead
+pub mod ElementRead
 pub mod Quarters
+pub mod QuarterRead
 pub mod QuartersRead
 pub mod PixelNumber
 pub mod ImageBytes

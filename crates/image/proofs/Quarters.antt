@@ -10,7 +10,7 @@ use Rattle.pktree.specs.Entries.{Entry, entries}
 use Rattle.pktree.proofs.Forests.{join-empty}
 use Rattle.pktree.proofs.Alignment.{aligned-next}
 use Rattle.pktree.proofs.EntryOrder.{entries-join}
-use Rattle.pktree.proofs.LocalLaw.{given-row, gather-is-local}
+use Rattle.pktree.proofs.LocalLaw.{gather-is-local, given-row}
 use Rattle.image.specs.Reading.{From}
 use Rattle.image.proofs.FirstEntry.{from-lower, from-arranged}
 

@@ -18,7 +18,7 @@ use Rattle.image.specs.declared.reader.ElementsRead.{ElementsRead}
 use Rattle.image.specs.declared.reader.ElementsRead.the-variants.{Elements, Wrong}
 use Rattle.image.specs.Parts.{entryNumber, pixelNumber, codesPart, levelsPart, entriesOf, pixelsOf}
 use Rattle.image.specs.Judged.{WellFormed, ImageOfSome}
-use Rattle.image.specs.PixelCount.{zeros}
+use Rattle.image.specs.PixelCount.{pixelLevels}
 use Rattle.image.specs.Reading.{entriesFrom, EntryIs, ElementsMeet, CanRead}
 use Rattle.image.proofs.EntriesFrom.{FirstIs, entry-first, entries-from-end, first-entry}
 use Rattle.image.proofs.EntryParts.{length-entries-at}
@@ -35,7 +35,7 @@ pub record PartsOf (bytes codes levels : List ℕ) : Type 0 where
 pub record Tells (bytes codes levels : List ℕ) : Type 0 where
   pub columns : length codes ≡ 4 * length levels
   pub entries-are : entriesFrom codes levels 0 ≡ entriesOf bytes
-  pub pixels-are : length (pixelsOf bytes) ≡ zeros levels
+  pub pixels-are : length (pixelsOf bytes) ≡ pixelLevels levels
 
 pub parts-tell : {bytes codes levels : List ℕ} → WellFormed bytes → PartsOf bytes codes levels → Tells bytes codes levels
 parts-tell {bytes} {codes} {levels} formed parts =
@@ -99,12 +99,12 @@ module _ {panel : Panel} {bytes codes levels : List ℕ} (can : CanRead panel by
       → ImageOfSome panel bytes → ⊥
   entries-unread {count} {next} root short some = let e = root-told root some .1 in let z : next ≡ length levels = cc in omega arith
 
-  pub pixels-told : ImageOfSome panel bytes → zeros levels ≡ pixelNumber bytes
+  pub pixels-told : ImageOfSome panel bytes → pixelLevels levels ≡ pixelNumber bytes
   pixels-told some = sym (told .pixels-are) ∙ ap length (image-tells-pixels panel (some .set) bytes (can .valid) (some .on-panel) (can .formed) (some .is)) ∙ some .of-n
 
   -- the root's entry and elements, no entry more and n pixels: the bytes are an image
   pub root-read : {count next : ℕ} → Bytes bytes → EntryIs codes levels 0 (panel .order) 0
-      → ElementsMeet codes levels (panel .k) (panel .order) 0 1 (Elements count next) → length levels ≤ next → zeros levels ≡ pixelNumber bytes → ImageOfSome panel bytes
+      → ElementsMeet codes levels (panel .k) (panel .order) 0 1 (Elements count next) → length levels ≤ next → pixelLevels levels ≡ pixelNumber bytes → ImageOfSome panel bytes
   root-read {count} {next} h is root all number =
       let read = root .sound in
       let es : Forest = gather (read .marked) (panel .k) (panel .order) 0 in

@@ -22,16 +22,16 @@ pub record EntryIs (codes levels : List ℕ) (at level code : ℕ) : Type 0 wher
   pub level-is : getD levels at 0 ≡ level
   pub code-is : fourAt codes (4 * at) ≡ code
 
--- it claims the block of this level and code
-pub record ClaimsBlock (codes levels : List ℕ) (at level code : ℕ) : Type 0 where
-  pub above-pixels : 1 ≤ level
-  pub entry : EntryIs codes levels at level code
-
 -- its code lies from `from` to below `to`
 pub record EntryInside (codes levels : List ℕ) (at from to : ℕ) : Type 0 where
   pub below : at < length levels
   pub low : from ≤ fourAt codes (4 * at)
   pub high : fourAt codes (4 * at) < to
+
+-- an element of this level and code can stand in a quarter of level `quarter`: it is no larger, and aligned
+pub record FitsQuarter (quarter level code : ℕ) : Type 0 where
+  pub level-to : level ≤ quarter
+  pub aligned : Aligned level code
 
 -- a block of codes below 2 ^ 32, and an index up to the number of entries
 pub record CanReadBlock (codes levels : List ℕ) (k level code at : ℕ) : Type 0 where

@@ -1,10 +1,10 @@
-ghost use Prim.Native.Nat.{_*_, _^_, _≤_};
+ghost use Prim.Native.Nat.{_*_, _^_, _≤_, _<_};
 ghost use mathlib.Core.Path.{_≡_};
 ghost use lib.ListN.{length};
 ghost use Rattle.store.specs.Decides.{Decides};
 ghost use Rattle.image.specs.Judged.{ImageOfSome};
-ghost use Rattle.image.specs.PixelCount.{zeros};
-ghost use Rattle.image.specs.Reading.{EntryIs, ClaimsBlock, EntryInside, CanReadBlock, ElementsMeet, QuarterMeets, CanRead};
+ghost use Rattle.image.specs.PixelCount.{pixelLevels};
+ghost use Rattle.image.specs.Reading.{EntryIs, EntryInside, FitsQuarter, CanReadBlock, ElementsMeet, QuarterMeets, CanRead};
 use crate::parts::byte_at;
 use crate::parts::code_at;
 use crate::parts::codes_part;
@@ -32,17 +32,6 @@ pub fn is_entry(codes: &[u8], levels: &[u8], at: usize, level: u32, code: usize)
     wide(code_at(codes, at)) == code
 }
 
-// Does the entry at this index claim this block? One of level 0 is a pixel and claims none.
-pub fn claims_block(codes: &[u8], levels: &[u8], at: usize, level: u32, code: usize) -> bool
-    requires { ⌜ length (now codes) ≡ 4 * length (now levels) ⌝ }
-    ensures { λ r. ⌜ Decides r (ClaimsBlock (now (codes .entry)) (now (levels .entry)) at level code) ⌝ }
-{
-    if level < 1 {
-        return false;
-    }
-    is_entry(codes, levels, at, level, code)
-}
-
 // Has the entry at this index a code from `from` to below `to`?
 pub fn is_inside(codes: &[u8], levels: &[u8], at: usize, from: usize, to: usize) -> bool
     requires { ⌜ length (now codes) ≡ 4 * length (now levels) ⌝ }
@@ -66,21 +55,19 @@ pub fn block_size(level: u32) -> usize
     1usize << (2 * level)
 }
 
-// A block of one pixel.
-pub fn read_pixel(codes: &[u8], levels: &[u8], k: u32, code: usize, at: usize) -> ElementsRead
-    requires { ⌜ CanReadBlock (now codes) (now levels) k 0 code at ⌝ }
-    ensures { λ r. ⌜ ElementsMeet (now (codes .entry)) (now (levels .entry)) k 0 code at r ⌝ }
+// Can an element of this level and code stand in a quarter of level `quarter`? It is no larger, and aligned.
+pub fn fits_quarter(quarter: u32, level: u32, code: usize) -> bool
+    requires { ⌜ (quarter ≤ 16) × (code < 4294967296) ⌝ }
+    ensures { λ r. ⌜ Decides r (FitsQuarter quarter level code) ⌝ }
 {
-    if is_entry(codes, levels, at, 0, code) {
-        return ElementsRead::Elements {
-            count: 1,
-            next: at + 1,
-        };
+    if quarter < level {
+        return false;
     }
-    ElementsRead::Elements { count: 0, next: at }
+    let bits = 2 * level;
+    (code >> bits) << bits == code
 }
 
-// The elements of the block of this level and code; where no entry lies in the block, there is none.
+// The elements of the block of this level and code, quarter by quarter.
 pub fn read_elements(
     codes: &[u8],
     levels: &[u8],
@@ -89,17 +76,11 @@ pub fn read_elements(
     code: usize,
     at: usize,
 ) -> ElementsRead
-    requires { ⌜ CanReadBlock (now codes) (now levels) k level code at ⌝ }
+    requires { ⌜ CanReadBlock (now codes) (now levels) k level code at × (1 ≤ level) ⌝ }
     ensures { λ r. ⌜ ElementsMeet (now (codes .entry)) (now (levels .entry)) k level code at r ⌝ }
 {
-    if level == 0 {
-        return read_pixel(codes, levels, k, code, at);
-    }
     let inner = level - 1;
     let size = block_size(inner);
-    if !is_inside(codes, levels, at, code, code + 4 * size) {
-        return ElementsRead::Elements { count: 0, next: at };
-    }
     let mut count = 0;
     let mut next = at;
     let mut place = code;
@@ -120,7 +101,7 @@ pub fn read_elements(
     ElementsRead::Elements { count, next }
 }
 
-// What a quarter gives: itself, if it is claimed, and k elements or more must be in it; otherwise its elements, fewer than k.
+// What a quarter gives: the elements in it, one after another, fewer than k; where its own entry claims it, the quarter is that one element.
 pub fn read_quarter(
     codes: &[u8],
     levels: &[u8],
@@ -132,35 +113,67 @@ pub fn read_quarter(
     requires { ⌜ CanReadBlock (now codes) (now levels) k level code at ⌝ }
     ensures { λ r. ⌜ QuarterMeets (now (codes .entry)) (now (levels .entry)) k level code at r ⌝ }
 {
-    if claims_block(codes, levels, at, level, code) {
+    let end = code + block_size(level);
+    let mut count = 0;
+    let mut next = at;
+    let mut place = code;
+    while is_inside(codes, levels, next, place, end) {
+        let inner = byte_at(levels, next);
+        let start = wide(code_at(codes, next));
+        if !fits_quarter(level, inner, start) {
+            return ElementsRead::Wrong;
+        }
         let ElementsRead::Elements {
-            count: inside,
-            next: after,
-        } = read_elements(codes, levels, k, level, code, at + 1)
+            count: more,
+            next: n,
+        } = read_element(codes, levels, k, inner, start, next)
         else {
             return ElementsRead::Wrong;
         };
-        if inside < k {
+        count += more;
+        if k <= count {
             return ElementsRead::Wrong;
         }
-        return ElementsRead::Elements {
-            count: 1,
-            next: after,
-        };
-    }
-    let ElementsRead::Elements { count, next } = read_elements(codes, levels, k, level, code, at)
-    else {
-        return ElementsRead::Wrong;
-    };
-    if k <= count {
-        return ElementsRead::Wrong;
+        next = n;
+        place = start + block_size(inner);
     }
     ElementsRead::Elements { count, next }
 }
 
+// The element whose entry stands at this index: a pixel, or a claimed block, and k elements or more must be in it.
+pub fn read_element(
+    codes: &[u8],
+    levels: &[u8],
+    k: u32,
+    level: u32,
+    code: usize,
+    at: usize,
+) -> ElementsRead
+    requires { ⌜ CanReadBlock (now codes) (now levels) k level code at × EntryIs (now codes) (now levels) at level code ⌝ }
+    ensures { λ r. ⌜ QuarterMeets (now (codes .entry)) (now (levels .entry)) k level code at r ⌝ }
+{
+    if level < 1 {
+        return ElementsRead::Elements {
+            count: 1,
+            next: at + 1,
+        };
+    }
+    let ElementsRead::Elements {
+        count: inside,
+        next,
+    } = read_elements(codes, levels, k, level, code, at + 1)
+    else {
+        return ElementsRead::Wrong;
+    };
+    if inside < k {
+        return ElementsRead::Wrong;
+    }
+    ElementsRead::Elements { count: 1, next }
+}
+
 // The number of entries of level 0.
 pub fn count_pixels(levels: &[u8]) -> usize
-    ensures { λ r. ⌜ r ≡ zeros (now (levels .entry)) ⌝ }
+    ensures { λ r. ⌜ r ≡ pixelLevels (now (levels .entry)) ⌝ }
 {
     let mut count = 0;
     let mut at = levels.len();

@@ -182,6 +182,12 @@ local-determined M k (suc l) c es a h o =
 pub local-is-gather : (k L c : ℕ) (es : Forest) → Aligned L c → LocallyRight k L c es → es ≡ gather (member (pixels es)) k L c
 local-is-gather k L c es a h = local-determined (member (pixels es)) k L c es a h (λ x p q. refl)
 
+-- fewer than k elements, up to a whole quarter among them, are what the quarter of their own pixels gives
+pub few-are-given : (k l d : ℕ) (f : Forest) → Aligned l d → Arranged k (suc l) d (d + 4 ^ l) f → size f < k → f ≡ give k l d (gather (member (pixels f)) k l d)
+few-are-given k l d f a h few =
+    quarter (member (pixels f)) k l d (d + 4 ^ l) f refl a (record { arranged = h; sparse = sparse-of-small k l f few; marks = λ x p q. refl })
+    (λ es u v. local-determined (member (pixels f)) k l d es a u v)
+
 pub local-is-tree : (panel : Panel) (es : Forest) → LocallyRight (panel .k) (panel .order) 0 es → block (panel .order) 0 es empty ≡ tree panel (member (pixels es))
 local-is-tree panel es h = ap (λ (f : Forest). block (panel .order) 0 f empty) (local-is-gather (panel .k) (panel .order) 0 es (aligned-root (panel .order)) h)
 

@@ -6,13 +6,13 @@ use mathlib.Core.List.{List}
 use lib.ListN.{length, drop}
 use lib.Seq.{drop-length}
 use borrow.Author.Needs.{needs}
-use Rattle.image.specs.PixelCount.{zeros}
-use Rattle.image.proofs.PixelNumber.{zeros-here, zeros-past}
+use Rattle.image.specs.PixelCount.{pixelLevels}
+use Rattle.image.proofs.PixelNumber.{pixel-here, block-here}
 use Rattle.image.proofs.reader.count_pixels.Statement.{statement}
 use Rattle.image.proofs.reader.count_pixels.Tie as tie
 
 abbrev Inv-loop : tie.InvT-loop
-Inv-loop levels count₀ at₀ count at = (at ≤ length levels) × (count + at ≤ length levels) × (count ≡ zeros (drop at levels))
+Inv-loop levels count₀ at₀ count at = (at ≤ length levels) × (count + at ≤ length levels) × (count ≡ pixelLevels (drop at levels))
 
 abbrev μ-loop : tie.MeasureT-loop
 μ-loop levels count₀ at₀ count at = at
@@ -24,13 +24,13 @@ loop-again : tie.Need-loop-again Inv-loop μ-loop
 loop-again c =
     let p = c .before .before .before in
     let levels : List ℕ = p .before .args .levels .now in
-    (search needs, omega (arith, p .loop .inv), zeros-here levels (p .loop .at) (p .loop .count) (search needs) (p .loop .inv .0) (c .if1 .taken) (p .loop .inv .2))
+    (search needs, omega (arith, p .loop .inv), pixel-here levels (p .loop .at) (p .loop .count) (search needs) (p .loop .inv .0) (c .if1 .taken) (p .loop .inv .2))
 
 loop-again-2 : tie.Need-loop-again-2 Inv-loop μ-loop
 loop-again-2 c =
     let p = c .before .before .before in
     let levels : List ℕ = p .before .args .levels .now in
-    (search needs, search needs, zeros-past levels (p .loop .at) (p .loop .count) (search needs) (p .loop .inv .0) (c .if1 .left) (p .loop .inv .2))
+    (search needs, search needs, block-here levels (p .loop .at) (p .loop .count) (search needs) (p .loop .inv .0) (c .if1 .left) (p .loop .inv .2))
 
 returns : tie.Need-returns Inv-loop μ-loop
 returns c =

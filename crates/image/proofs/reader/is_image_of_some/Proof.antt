@@ -31,16 +31,18 @@ returns c =
 read-elements-requires : tie.Need-read-elements-requires
 read-elements-requires c κs =
     let s = c .before .before .before .before .before in
-    let valid = s .pre .valid in
-    record {
-      columns = parts-tell (s .pre .formed) (opened (c .before .before)) .columns;
-      k-from = valid .k-from;
-      k-to = valid .k-to;
-      level-to = valid .order-to;
-      aligned = aligned-root (s .args .order);
-      code-to = panel-size (s .args .order) (valid .order-to);
-      at-to = root-there c .below;
-    }
+    let valid = s .pre .valid in (
+      record {
+        columns = parts-tell (s .pre .formed) (opened (c .before .before)) .columns;
+        k-from = valid .k-from;
+        k-to = valid .k-to;
+        level-to = valid .order-to;
+        aligned = aligned-root (s .args .order);
+        code-to = panel-size (s .args .order) (valid .order-to);
+        at-to = root-there c .below;
+      },
+      valid .order-from,
+    )
 
 returns-2 : tie.Need-returns-2
 returns-2 c = root-wrong (c .before .before .before .before .before .before .before .before .pre) (opened (c .before .before .before .before .before)) (rw (c .enum-told .given .1) at (c .before .before .read-elements .ensures))
