@@ -2,5 +2,5 @@ pub mod EntryWrites
 pub mod SavedTo
 pub mod SavedBlock
 pub mod SavedImage
+pub mod SaidNumbers
 pub mod SaveAnswers
-pub mod WholePanel

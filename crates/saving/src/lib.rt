@@ -1,12 +1,11 @@
-// Saving: a walk over every block, which writes the image.
+// Saving: a walk over every block, which writes the image. Its length is known before: 01's refusal 9 leaves the output as it was.
 ghost use Prim.Native.Nat.{_+_, _*_, _≤_, _<_};
 ghost use mathlib.Core.Path.{_≡_};
 ghost use lib.ListN.{length};
 ghost use Rattle.saving.specs.Saving.{putFour, putEntry, CanSave, SaveMeets, SaveElementMeets, HeaderPut, SaveAnswer};
 ghost use Rattle.store.specs.Sizes.{UsableStore, sizesOf};
-use query::count::Counted;
-use query::count::count;
-use query::window::Window;
+use crate::numbers::Numbers;
+use crate::numbers::read_numbers;
 use store::elements::Element;
 use store::elements::element_at;
 use store::opening::Opening;
@@ -16,6 +15,8 @@ use store::sizes::Sizes;
 use store::sizes::layout_of;
 use store::slots::slot_part;
 use store::slots::wide;
+
+pub mod numbers;
 
 // Four bytes, the low one first.
 pub fn put_four(output: &mut [u8], at: usize, value: u32)
@@ -138,33 +139,29 @@ pub enum Imaged {
     Unreadable,
 }
 
-// 01's save, where refusal 3 does not apply: a count of the whole panel gives the numbers of pixels and blocks, then each entry is written once.
+// 01's save, where refusal 3 does not apply: the store says how many entries there are, then a walk writes each once and finds as many.
 pub fn save(store: &[u32], sizes: Sizes, output: &mut [u8]) -> Imaged
     requires { ⌜ UsableStore (now store) × (sizes ≡ sizesOf (now store)) ⌝ }
     ensures { λ r. ⌜ SaveAnswer (now (store .entry)) (now (output .entry)) (now (output .exit)) r ⌝ }
 {
-    let side = (1u32 << sizes.order) - 1;
-    let whole = Window {
-        x0: 0,
-        y0: 0,
-        x1: side,
-        y1: side,
-    };
-    let Counted::Seen { found, opened } = count(store, sizes, whole) else {
+    let Numbers::Said { pixels, blocks } = read_numbers(store, sizes) else {
         return Imaged::Unreadable;
     };
-    let entries = wide(found) + wide(opened);
+    let entries = wide(pixels) + wide(blocks);
     let needed = 10 + 5 * entries;
     if output.len() < needed {
         return Imaged::TooShort(needed);
     }
-    put_header(output, sizes.order, sizes.k, found + opened, found);
+    put_header(output, sizes.order, sizes.k, pixels + blocks, pixels);
     let saving = Saving {
         layout: layout_of(sizes),
         entries,
     };
-    let Saved::Next(_) = save_block(store, saving, 0, sizes.order, 0, output, 0) else {
+    let Saved::Next(end) = save_block(store, saving, 0, sizes.order, 0, output, 0) else {
         return Imaged::Unreadable;
     };
+    if end < entries {
+        return Imaged::Unreadable;
+    }
     Imaged::Whole(needed)
 }

@@ -14,7 +14,7 @@ use store::sizes::Sizes;
 use store::sizes::layout_of;
 use store::slots::wide;
 
-mod chain;
+pub mod chain;
 mod pass;
 mod walk;
 
