@@ -14,7 +14,7 @@ use store::sizes::Sizes;
 use store::sizes::layout_of;
 use store::slots::wide;
 
-pub mod chain;
+mod chain;
 mod pass;
 mod walk;
 
