@@ -1,18 +1,19 @@
 -- What each way out of the walk that writes an image shows: a block's, then an element's.
-use Prim.Native.Nat.{ℕ, _+_, _≤_, _<_}
+use Prim.Native.Nat.{ℕ, _+_, _≤_}
 use native.Mathlib.Omega.{arith}
 use mathlib.Core.Path.{_≡_, refl, ap, _∙_}
 use mathlib.Core.List.{List, []}
 use lib.ListN.{length, length-append}
 use Rattle.pktree.specs.Elements.{Forest, empty, block}
 use Rattle.pktree.specs.Entries.{entries}
+use Rattle.store.specs.declared.elements.Element.{Element}
 use Rattle.store.specs.declared.elements.Element.the-variants.{Pixel, Block}
 use Rattle.store.specs.Layout.{LayoutFits}
 use Rattle.store.specs.Placed.{forestOf}
 use Rattle.saving.specs.declared.Saving.{Saving}
 use Rattle.saving.specs.declared.Saved.{Saved}
 use Rattle.saving.specs.declared.Saved.the-variants.{Next, Damaged}
-use Rattle.saving.specs.Saving.{putEntry, SaveMeets, SaveElementMeets}
+use Rattle.saving.specs.Saving.{putEntry, PixelPut, SaveMeets, SaveElementMeets}
 use Rattle.query.proofs.OpenedSlot.{SlotOpened, SlotShut, not-both, view-opens}
 use Rattle.saving.proofs.EntryWrites.{length-put-entry}
 use Rattle.saving.proofs.SavedTo.{own-entry-first, SavedTo, saved-all, saved-damaged}
@@ -60,20 +61,6 @@ module _ {saving : Saving} {words : List ℕ} {slot level code : ℕ} {output : 
         }
 
 module _ {saving : Saving} {words : List ℕ} {level : ℕ} {output : List ℕ} {at : ℕ} where
-  -- a pixel has one entry, which has no room
-  pub pixel-no-room : {c : ℕ} → saving .entries ≤ at → SaveElementMeets saving words (Pixel c) level output output at Damaged
-  pixel-no-room h = record { bounds = tt; long = refl; right = λ room. absurd (omega arith) }
-
-  -- its entry is written
-  pub pixel-saved : {c : ℕ} {after : List ℕ} → at < saving .entries → after ≡ putEntry (saving .entries) at output 0 c
-      → SaveElementMeets saving words (Pixel c) level output after at (Next (at + 1))
-  pixel-saved {c} h put =
-      record {
-        bounds = omega arith;
-        long = ap length put ∙ length-put-entry (saving .entries) at output 0 c;
-        right = λ room. record { answer = refl; output = put };
-      }
-
   -- levels fall in a sound store
   pub block-not-lower : {s i c : ℕ} → level ≤ i → SaveElementMeets saving words (Block s i c) level output output at Damaged
   block-not-lower h = record { bounds = tt; long = refl; right = λ k code fs child room. absurd (omega (arith, child .below)) }
@@ -86,3 +73,23 @@ module _ {saving : Saving} {words : List ℕ} {level : ℕ} {output : List ℕ} 
   pub block-within : {s i c : ℕ} {after : List ℕ} {r : Saved} → SaveMeets saving words s i c output after at r
       → SaveElementMeets saving words (Block s i c) level output after at r
   block-within h = record { bounds = h .bounds; long = h .long; right = λ k code fs child room. h .right k fs (child .view) room }
+
+  -- a pixel has one entry
+  pixel-saved : (c : ℕ) (after : List ℕ) (r : Saved) → PixelPut (saving .entries) c output after at r → SaveElementMeets saving words (Pixel c) level output after at r
+  pixel-saved c after (Next next) put =
+      record {
+        bounds = omega (arith, put .0, put .1);
+        long = ap length (put .2) ∙ length-put-entry (saving .entries) at output 0 c;
+        right = λ room. record { answer = ap Next (put .1); output = put .2 };
+      }
+  pixel-saved c after Damaged put = record { bounds = tt; long = ap length (put .1); right = λ room. absurd (omega (arith, put .0)) }
+
+  -- the arms of the match on an element
+  module _ {element : Element} {after written : List ℕ} {r saved : Saved} where
+    pub child-arm : {s i c : ℕ} → element ≡ Block s i c → written ≡ after → saved ≡ r → SaveElementMeets saving words (Block s i c) level output after at r
+        → SaveElementMeets saving words element level output written at saved
+    child-arm e f g h = rw (e, f, g) h
+
+    pub pixel-arm : {c : ℕ} → element ≡ Pixel c → written ≡ after → saved ≡ r → PixelPut (saving .entries) c output after at r
+        → SaveElementMeets saving words element level output written at saved
+    pixel-arm {c} e f g put = rw (e, f, g) (pixel-saved c after r put)

@@ -1,10 +1,9 @@
--- What save writes of a sound store: as many entries as the count of the whole panel gives, and their bytes are the image.
+-- What save writes of a sound store: as many entries as it has pixels and blocks, and their bytes are the image.
 use Prim.Native.Nat.{ℕ, _+_, _*_, _≤_}
 use native.Mathlib.Omega.{arith}
 use mathlib.Core.Path.{_≡_, refl, ap, ap₂, subst, sym, _∙_}
 use mathlib.Core.List.{List, _++_, append-assoc}
 use lib.ListN.{length, getD, drop, length-drop}
-use lib.Pow.{pow-pos as side-pos}
 use lib.Seq.{drop-drop}
 use Rattle.pktree.specs.Panel.{Panel}
 use Rattle.pktree.specs.PixelSet.{member}
@@ -14,44 +13,28 @@ use Rattle.pktree.specs.Entries.{Entry, entries}
 use Rattle.pktree.specs.Image.{codeBytes, levelBytes, header, image}
 use Rattle.pktree.proofs.EntryOrder.{number-of-entries}
 use Rattle.pktree.proofs.Images.{image-length}
-use Rattle.pktree.proofs.Pixels.{pixels-of-tree-are-set}
 use Rattle.store.specs.Layout.{layoutOf}
 use Rattle.store.specs.Placed.{forestOf}
 use Rattle.store.specs.Sizes.{panelOf, sizesOf}
 use Rattle.store.specs.Sound.{Holds}
 use Rattle.store.proofs.BlockView.{root-view}
 use Rattle.store.proofs.SoundView.{sound-view}
-use Rattle.query.specs.declared.count.Counted.{Counted}
-use Rattle.query.specs.declared.count.Counted.the-variants.{Seen}
 use Rattle.saving.specs.declared.Saving.{Saving}
 use Rattle.saving.specs.declared.Saved.{Saved}
-use Rattle.query.specs.Counting.{CountAnswer}
 use Rattle.saving.specs.Saving.{putEntries, EntriesPut, SaveMeets, HeaderPut}
 use Rattle.saving.proofs.EntryWrites.{all-entries-land}
-use Rattle.saving.proofs.WholePanel.{wholePanel, whole-panel-finds-all, whole-panel-opens-all}
 
 -- the tree of the set that a store holds
 abbrev pub heldTree : List ℕ → List ℕ → Forest
 heldTree words set = tree (panelOf (sizesOf words)) (member set)
 
 -- a sound store holds the tree of its own pixels
-tree-of-held : {words set : List ℕ} (holds : Holds words set) → forestOf (holds .placed) ≡ heldTree words set
+pub tree-of-held : {words set : List ℕ} (holds : Holds words set) → forestOf (holds .placed) ≡ heldTree words set
 tree-of-held {words} holds = holds .sound .is-tree ∙ ap (λ (l : List ℕ). tree (panelOf (sizesOf words)) (member l)) (holds .set-is)
 
 -- whose pixels are the set
 pixels-of-held : {words set : List ℕ} → Holds words set → pixels (heldTree words set) ≡ set
 pixels-of-held holds = ap pixels (sym (tree-of-held holds)) ∙ holds .set-is
-
--- a count of the whole panel finds the set and opens every block
-pub whole-counted : {words set : List ℕ} {r : Counted} → Holds words set → CountAnswer words (wholePanel (panelOf (sizesOf words))) r
-    → r ≡ Seen (length set) (length (blocks (heldTree words set)))
-whole-counted {words} {set} holds answer =
-    let panel : Panel = panelOf (sizesOf words) in
-    let valid = holds .sound .usable .valid .panel in
-    let side = side-pos (panel .order) in
-    answer .sound set holds (record { x-ordered = omega arith; y-ordered = omega arith }) (record { x-on = omega arith; y-on = omega arith })
-    ∙ ap₂ Seen (ap length (whole-panel-finds-all panel set valid (rw (pixels-of-held holds) at (pixels-of-tree-are-set panel (member set)))))
-    (whole-panel-opens-all panel (member set) valid)
 
 -- 01: e is the number of pixels and of blocks
 pub entries-counted : {words set : List ℕ} → Holds words set → length set + length (blocks (heldTree words set)) ≡ length (entries (heldTree words set))

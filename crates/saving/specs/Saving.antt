@@ -44,6 +44,11 @@ abbrev pub SaveBounds : Saving → Saved → Type 0
 SaveBounds saving (Next at) = at ≤ saving .entries
 SaveBounds saving Damaged = Unit {0}
 
+-- a pixel's entry is written, or has no room
+abbrev pub PixelPut : ℕ → ℕ → List ℕ → List ℕ → ℕ → Saved → Type 0
+PixelPut n code before after at (Next next) = (at < n) × (next ≡ at + 1) × (after ≡ putEntry n at before 0 code)
+PixelPut n code before after at Damaged = (n ≤ at) × (after ≡ before)
+
 -- the entries of these elements are written from index `at` on
 pub record EntriesPut (saving : Saving) (f : Forest) (before after : List ℕ) (at : ℕ) (r : Saved) : Type 0 where
   pub answer : r ≡ Next (at + length (entries f))

@@ -1,12 +1,12 @@
-// Saving: a walk over every block, which writes the image.
+// Saving: a walk over every block, which writes the image. Its length is known before: 01's refusal 9 leaves the output as it was.
 ghost use Prim.Native.Nat.{_+_, _*_, _≤_, _<_};
 ghost use mathlib.Core.Path.{_≡_};
 ghost use lib.ListN.{length};
-ghost use Rattle.saving.specs.Saving.{putFour, putEntry, CanSave, SaveMeets, SaveElementMeets, HeaderPut, SaveAnswer};
+ghost use Rattle.saving.specs.Saving.{putFour, putEntry, PixelPut, CanSave, SaveMeets, SaveElementMeets, HeaderPut, SaveAnswer};
 ghost use Rattle.store.specs.Sizes.{UsableStore, sizesOf};
-use query::count::Counted;
-use query::count::count;
-use query::window::Window;
+ghost use Rattle.store.specs.declared.elements.Element.the-variants.{Block};
+use crate::numbers::Numbers;
+use crate::numbers::read_numbers;
 use store::elements::Element;
 use store::elements::element_at;
 use store::opening::Opening;
@@ -16,6 +16,8 @@ use store::sizes::Sizes;
 use store::sizes::layout_of;
 use store::slots::slot_part;
 use store::slots::wide;
+
+pub mod numbers;
 
 // Four bytes, the low one first.
 pub fn put_four(output: &mut [u8], at: usize, value: u32)
@@ -48,6 +50,18 @@ pub enum Saved {
     Damaged,
 }
 
+// A pixel's entry, at level 0.
+pub fn save_pixel(output: &mut [u8], entries: usize, at: usize, code: u32) -> Saved
+    requires { ⌜ 10 + 5 * entries ≤ length (now output) ⌝ }
+    ensures { λ r. ⌜ PixelPut entries code (now (output .entry)) (now (output .exit)) at r ⌝ }
+{
+    if entries <= at {
+        return Saved::Damaged;
+    }
+    put_entry(output, entries, at, 0, code);
+    Saved::Next(at + 1)
+}
+
 // The entries of the block in this slot, from index `at` on: its own, then those of its elements.
 pub fn save_block(
     store: &[u32],
@@ -75,7 +89,15 @@ pub fn save_block(
     let mut i = 0;
     while i < count {
         let element = element_at(part, i);
-        let Saved::Next(n) = save_element(store, saving, element, level, output, next) else {
+        let saved = match element {
+            Element::Pixel(pixel) => save_pixel(output, entries, next, pixel),
+            Element::Block {
+                slot: s,
+                level: inner,
+                code: c,
+            } => save_child(store, saving, level, s, inner, c, output, next),
+        };
+        let Saved::Next(n) = saved else {
             return Saved::Damaged;
         };
         next = n;
@@ -84,41 +106,28 @@ pub fn save_block(
     Saved::Next(next)
 }
 
-pub fn save_element(
+// The block that an element of a block of this level names: a lower one, in a slot that there is.
+pub fn save_child(
     store: &[u32],
     saving: Saving,
-    element: Element,
     level: u32,
+    slot: u32,
+    inner: u32,
+    code: u32,
     output: &mut [u8],
     at: usize,
 ) -> Saved
     requires { ⌜ CanSave saving (now store) 0 level (now output) at ⌝ }
-    ensures { λ r. ⌜ SaveElementMeets saving (now (store .entry)) element level (now (output .entry)) (now (output .exit)) at r ⌝ }
+    ensures { λ r. ⌜ SaveElementMeets saving (now (store .entry)) (Block slot inner code) level (now (output .entry)) (now (output .exit)) at r ⌝ }
 {
     let layout = saving.layout;
-    let entries = saving.entries;
-    match element {
-        Element::Pixel(code) => {
-            if entries <= at {
-                return Saved::Damaged;
-            }
-            put_entry(output, entries, at, 0, code);
-            Saved::Next(at + 1)
-        }
-        Element::Block {
-            slot,
-            level: inner,
-            code,
-        } => {
-            if level <= inner {
-                return Saved::Damaged;
-            }
-            if layout.slots <= wide(slot) {
-                return Saved::Damaged;
-            }
-            save_block(store, saving, wide(slot), inner, code, output, at)
-        }
+    if level <= inner {
+        return Saved::Damaged;
     }
+    if layout.slots <= wide(slot) {
+        return Saved::Damaged;
+    }
+    save_block(store, saving, wide(slot), inner, code, output, at)
 }
 
 // The sizes at the head of an image.
@@ -138,33 +147,29 @@ pub enum Imaged {
     Unreadable,
 }
 
-// 01's save, where refusal 3 does not apply: a count of the whole panel gives the numbers of pixels and blocks, then each entry is written once.
+// 01's save, where refusal 3 does not apply: the store says how many entries there are, then a walk writes each once and finds as many.
 pub fn save(store: &[u32], sizes: Sizes, output: &mut [u8]) -> Imaged
     requires { ⌜ UsableStore (now store) × (sizes ≡ sizesOf (now store)) ⌝ }
     ensures { λ r. ⌜ SaveAnswer (now (store .entry)) (now (output .entry)) (now (output .exit)) r ⌝ }
 {
-    let side = (1u32 << sizes.order) - 1;
-    let whole = Window {
-        x0: 0,
-        y0: 0,
-        x1: side,
-        y1: side,
-    };
-    let Counted::Seen { found, opened } = count(store, sizes, whole) else {
+    let Numbers::Said { pixels, blocks } = read_numbers(store, sizes) else {
         return Imaged::Unreadable;
     };
-    let entries = wide(found) + wide(opened);
+    let entries = wide(pixels) + wide(blocks);
     let needed = 10 + 5 * entries;
     if output.len() < needed {
         return Imaged::TooShort(needed);
     }
-    put_header(output, sizes.order, sizes.k, found + opened, found);
+    put_header(output, sizes.order, sizes.k, pixels + blocks, pixels);
     let saving = Saving {
         layout: layout_of(sizes),
         entries,
     };
-    let Saved::Next(_) = save_block(store, saving, 0, sizes.order, 0, output, 0) else {
+    let Saved::Next(end) = save_block(store, saving, 0, sizes.order, 0, output, 0) else {
         return Imaged::Unreadable;
     };
+    if end < entries {
+        return Imaged::Unreadable;
+    }
     Imaged::Whole(needed)
 }

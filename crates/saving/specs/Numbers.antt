@@ -1,0 +1,23 @@
+-- The numbers of pixels and blocks that save finds before it writes.
+use Prim.Native.Nat.{ℕ, _≤_}
+use mathlib.Core.Path.{_≡_}
+use mathlib.Core.List.{List}
+use lib.ListN.{length, getD}
+use Rattle.pktree.specs.PixelSet.{member}
+use Rattle.pktree.specs.Tree.{tree, blocks}
+use Rattle.store.specs.Opening.{CannotOpen}
+use Rattle.store.specs.Sizes.{panelOf, slotCount, slotWidth, sizesOf}
+use Rattle.store.specs.Sound.{Holds}
+use Rattle.saving.specs.declared.numbers.Numbers.{Numbers}
+use Rattle.saving.specs.declared.numbers.Numbers.the-variants.{Said, Damaged}
+
+-- whatever the words are: never more pixels than N, nor more blocks than S
+abbrev pub NumbersWithin : List ℕ → Numbers → Type 0
+NumbersWithin words (Said pixels blocks) = (pixels ≤ getD words 3 0) × (blocks ≤ slotCount (getD words 2 0) (getD words 3 0))
+NumbersWithin words Damaged = Unit {0}
+
+-- on a sound store those of the set's tree; damaged where the root's slot does not say that it is the root
+pub record NumbersAnswer (words : List ℕ) (r : Numbers) : Type 0 where
+  pub bounds : NumbersWithin words r
+  pub sound : (set : List ℕ) → Holds words set → r ≡ Said (length set) (length (blocks (tree (panelOf (sizesOf words)) (member set))))
+  pub closed : CannotOpen (slotWidth (getD words 2 0)) words 0 (getD words 1 0) 0 → r ≡ Damaged
