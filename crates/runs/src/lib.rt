@@ -1,6 +1,7 @@
 // Where a block is to be formed: the run of elements that it takes. It only reads.
 ghost use Prim.Native.Nat.{_+_, _*_, _≤_, _<_};
 ghost use lib.ListN.{length};
+ghost use Rattle.store.specs.Splice.{PlaceOf};
 ghost use Rattle.runs.specs.Run.{Counted, LevelAt, LevelBefore, ReachedLeft, ReachedRight, RunMeets};
 use store::elements::find_place;
 
@@ -33,7 +34,7 @@ pub fn level_before(part: &[u32], count: usize, i: usize, code: u32) -> u32
     if i == 0 {
         return 17;
     }
-    level_at(part, count, i - 1, code)
+    morton::common_level(part[6 + 2 * i], code)
 }
 
 // How far to the left of `from` the elements in the block of this level around the code reach.
@@ -65,31 +66,51 @@ pub fn reach_right(part: &[u32], count: usize, from: usize, code: u32, level: u3
     right
 }
 
+// The place of the code among the elements: mostly where the caller looks for it, else searched.
+fn place_of(part: &[u32], count: usize, near: usize, code: u32) -> usize
+    requires { ⌜ Counted (now part) count × (near ≤ count) ⌝ }
+    ensures { λ r. ⌜ PlaceOf (now (part .entry)) count code r ⌝ }
+{
+    if 0 < near {
+        if code < part[6 + 2 * near] {
+            return find_place(part, count, code);
+        }
+    }
+    if near < count {
+        if part[8 + 2 * near] <= code {
+            return find_place(part, count, code);
+        }
+    }
+    near
+}
+
 // The least level below the block's own at which the block around the code holds k of the elements; these are one run, found going
 // outwards from the code's place by the levels of common blocks.
-pub fn find_run(part: &[u32], count: usize, level: u32, k: usize, code: u32) -> Run
-    requires { ⌜ Counted (now part) count × ((level ≤ 16) × ((2 ≤ k) × (k ≤ 16))) ⌝ }
+pub fn find_run(part: &[u32], count: usize, near: usize, level: u32, k: usize, code: u32) -> Run
+    requires { ⌜ (Counted (now part) count × (near ≤ count)) × ((level ≤ 16) × ((2 ≤ k) × (k ≤ 16))) ⌝ }
     ensures { λ r. ⌜ RunMeets (now (part .entry)) count level k code r ⌝ }
 {
-    let place = find_place(part, count, code);
+    let place = place_of(part, count, near, code);
     let mut left = place;
     let mut right = place;
+    let mut below = level_before(part, count, place, code);
+    let mut above = level_at(part, count, place, code);
     let mut reached: u32 = 0;
     while right - left < k {
-        let below = level_before(part, count, left, code);
-        let above = level_at(part, count, right, code);
         if below <= above {
             if level <= below {
                 return Run::Nothing;
             }
             reached = below;
             left -= 1;
+            below = level_before(part, count, left, code);
         } else {
             if level <= above {
                 return Run::Nothing;
             }
             reached = above;
             right += 1;
+            above = level_at(part, count, right, code);
         }
     }
     let first = reach_left(part, count, left, code, reached);
