@@ -1,25 +1,27 @@
--- A run of elements that moves to a free slot: what taking the slot, the splice and the slot written leave together.
-use Prim.Native.Nat.{ℕ, _≤_}
+-- A run of elements that moves to a free slot: what taking the slot, the move, the splice and the header leave together.
+use Prim.Native.Nat.{ℕ, _+_, _*_, _≤_, _<_}
 use native.Mathlib.Omega.{arith}
-use mathlib.Core.Path.{_≡_, sym, _∙_}
+use native.Mathlib.Decide.{ℕ-discrete}
+use mathlib.Core.Path.{_≡_, refl, ap, sym, _∙_}
 use mathlib.Core.List.{List}
 use lib.ListN.{length, getD}
+use lib.Seq.{paste}
 use Rattle.store.specs.declared.sizes.Layout.{Layout}
 use Rattle.store.specs.declared.free.FreeSlot.the-variants.{Taken}
-use Rattle.store.specs.Slot.{slotPart, nextWord}
-use Rattle.store.specs.Splice.{elementsIn, CanSplice}
+use Rattle.store.specs.Slot.{slotPart, countWord, nextWord, OnlySlot}
+use Rattle.store.specs.Splice.{elementsIn, CanSplice, withHeader}
 use Rattle.store.specs.FreeSlots.{TookFree}
-use Rattle.store.proofs.SlotWrites.{HeadWritten, slot-length, head-word-set}
-use Rattle.store.proofs.Usable.{slot-within}
-use Rattle.rewrite.specs.Rewrite.{CanCut, RewroteSlot, SplicedSlot, BlockFormed, blockWords, runWords}
-use Rattle.rewrite.proofs.SlotNows.{spliced-now}
+use Rattle.store.proofs.SlotWrites.{SlotWritten, HeadWritten, head-word-set}
+use Rattle.store.proofs.Usable.{slot-long}
+use Rattle.rewrite.specs.Rewrite.{CanCut, SlotNow, SplicedSlot, RunMoved, BlockFormed, blockWords, runWords}
+use Rattle.rewrite.proofs.SlotNows.{header-kept, slot-wrote, spliced-now}
+use Rattle.rewrite.proofs.Runs.{run-within, run-whole, run-long, run-fits}
 
 -- a run of at least one element gives way to one
 pub run-gives-way : {layout : Layout} {words : List ℕ} {slot level first size : ℕ} (source : List ℕ) → CanCut layout words slot level first size → 1 ≤ size
     → 2 ≤ length source → CanSplice (slotPart (layout .width) words slot) source first size 1
 run-gives-way {layout} {words} {slot} source can some two =
-    let long : length (slotPart (layout .width) words slot) ≡ layout .width =
-    slot-length (layout .width) slot words (slot-within layout slot words (can .fits) (can .slot-below)) in
+    let long = slot-long layout words slot (can .fits) (can .slot-below) in
     record {
       short = omega (arith, can .fits .within);
       laid = omega (arith, can .laid);
@@ -47,23 +49,67 @@ cut-still {slot = slot} can took =
       within = rw (h .slots slot) (can .within);
     }
 
--- the free slot is taken, the run gives way to the block's element, and the free slot says the run
-pub block-formed : {layout : Layout} {slot level code first size fresh : ℕ} {before taken cut after moved : List ℕ} → CanCut layout before slot level first size
-    → 1 ≤ size → TookFree layout before taken (Taken fresh) → SplicedSlot (layout .width) slot first size 1 (blockWords fresh level code) taken cut
-    → RewroteSlot (layout .width) fresh level code moved cut after → moved ≡ runWords (elementsIn (slotPart (layout .width) taken slot)) first size
+-- so it does when it was moved, to whichever slot
+pub cut-moved : {layout : Layout} {slot level first size other : ℕ} {before moved : List ℕ} → CanCut layout before slot level first size → other < layout .slots
+    → RunMoved (layout .width) slot first size other before moved → CanCut layout moved slot level first size
+cut-moved {layout} {slot} {first = first} {size = size} {other = other} {before = before} {moved = moved} can below wrote =
+    record {
+      fits = record { within = can .fits .within; lies = rw (wrote .only .long) (can .fits .lies) };
+      slot-below = can .slot-below;
+      level-to = can .level-to;
+      laid = rw count (can .laid);
+      within = rw count (can .within);
+    }
+  where
+    same : Dec (slot ≡ other) → countWord (slotPart (layout .width) moved slot) ≡ countWord (slotPart (layout .width) before slot)
+    same (yes e) = rw (e, wrote .self)
+        (header-kept (slotPart (layout .width) before other) _ (2 * size) (omega (arith, slot-long layout before other (can .fits) below, can .fits .within .width-from)))
+    same (no e) = ap countWord (wrote .only .others slot e)
+
+    count : countWord (slotPart (layout .width) moved slot) ≡ countWord (slotPart (layout .width) before slot)
+    count = same (ℕ-discrete slot other)
+
+-- the run and a header make a block of the slot
+pub moved-now : {layout : Layout} {slot level first size other : ℕ} {before part : List ℕ} (code : ℕ) → CanCut layout before slot level first size → other < layout .slots
+    → part ≡ paste (slotPart (layout .width) before other) 8 (runWords (elementsIn (slotPart (layout .width) before slot)) first size) (2 * size)
+    → SlotNow (withHeader part level code size) level code (runWords (elementsIn (slotPart (layout .width) before slot)) first size)
+moved-now {layout} {slot} {level} {first} {size} {other} {before} code can below e =
+    let run : List ℕ = runWords (elementsIn (slotPart (layout .width) before slot)) first size in
+    let within = run-within {level = level} can refl in
+    let room : 8 + 2 * size ≤ length (slotPart (layout .width) before other) =
+    omega (arith, slot-long layout before other (can .fits) below, run-fits (can .fits) (can .slot-below) within) in
+    let whole = run-whole (elementsIn (slotPart (layout .width) before slot)) first size in
+    let wrote = slot-wrote (slotPart (layout .width) before other) run level code size room (omega (arith, run-long (slotPart (layout .width) before slot) first size within)) in
+    rw (e, whole) (rw whole at wrote)
+
+-- the same slot written twice
+pub only-twice : {width slot : ℕ} {before mid after : List ℕ} → OnlySlot width slot before mid → OnlySlot width slot mid after → OnlySlot width slot before after
+only-twice p q = record {
+  long = q .long ∙ p .long;
+  head = q .head ∙ p .head;
+  others = λ other ne. q .others other ne ∙ p .others other ne;
+  past = λ n below. q .past n below ∙ p .past n below;
+}
+
+-- the free slot is taken, the run moved there, the run gives way to the block's element, and the free slot gets its header
+pub block-formed : {layout : Layout} {slot level code first size fresh : ℕ} {before taken moved cut after : List ℕ} → CanCut layout before slot level first size
+    → 1 ≤ size → TookFree layout before taken (Taken fresh) → RunMoved (layout .width) slot first size fresh taken moved
+    → SplicedSlot (layout .width) slot first size 1 (blockWords fresh level code) moved cut
+    → SlotWritten (layout .width) fresh cut (withHeader (slotPart (layout .width) cut fresh) level code size) after
     → BlockFormed layout slot level code first size (getD before 7 0) before after
-block-formed {slot = slot} {level = level} {code = code} {fresh = fresh} can some took own other run =
+block-formed {slot = slot} {level = level} {code = code} {fresh = fresh} can some took put own headed =
     let h = taken-slots took in
-    let self = h .slots slot in
+    let still = cut-still can took in
     rw (← took .0) (record {
-      long = other .only .long ∙ own .only .long ∙ h .long;
+      long = headed .only .long ∙ own .only .long ∙ put .only .long ∙ h .long;
       fresh-is = took .0;
       fresh-below = took .1;
       was-free = took .2;
-      head = other .only .head ∙ own .only .head ∙ h .head;
-      others = λ t ne nf. other .only .others t nf ∙ own .only .others t ne ∙ h .slots t;
-      past = λ n below fresh-below. other .only .past n fresh-below ∙ own .only .past n below ∙ h .past n;
-      new-block = λ apart. rw (← self, ← run) (other .now-says);
-      around = λ apart. rw (other .only .others slot (λ e. apart (sym e)), ← self)
-          (spliced-now (run-gives-way (blockWords fresh level code) (cut-still can took) some (omega arith)) (own .spliced));
+      head = headed .only .head ∙ own .only .head ∙ put .only .head ∙ h .head;
+      others = λ t ne nf. headed .only .others t nf ∙ own .only .others t ne ∙ put .only .others t nf ∙ h .slots t;
+      past = λ n below fresh-below. headed .only .past n fresh-below ∙ own .only .past n below ∙ put .only .past n fresh-below ∙ h .past n;
+      new-block = λ apart. rw (headed .self, ← h .slots slot) (moved-now code still (took .1) (own .only .others fresh apart ∙ put .self));
+      around = λ apart. let ne : slot ≡ fresh → ⊥ = λ e. apart (sym e) in
+          rw (headed .only .others slot ne, ← h .slots slot, ← put .only .others slot ne)
+          (spliced-now (run-gives-way (blockWords fresh level code) (cut-moved still (took .1) put) some (omega arith)) (own .spliced));
     })

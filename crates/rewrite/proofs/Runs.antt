@@ -1,5 +1,5 @@
 -- The words of a run of a slot's elements, and what copying it out, or what lies beside it, leaves in other words.
-use Prim.Native.Nat.{ℕ, suc, _+_, _-_, _*_, _≤_}
+use Prim.Native.Nat.{ℕ, suc, _+_, _-_, _*_, _≤_, _<_}
 use native.Mathlib.Numerals.{add-one}
 use native.Mathlib.Omega.{arith}
 use mathlib.Core.Path.{_≡_, _∙_}
@@ -7,6 +7,7 @@ use mathlib.Core.List.{List, [], _∷_, _++_, append-assoc}
 use lib.ListN.{length, take, drop, set, length-drop, length-set}
 use lib.Seq.{paste, length-paste, take-paste, drop-drop, take-take, take-all, take-at, take-suc-set, length-take-le}
 use Rattle.store.specs.declared.sizes.Layout.{Layout}
+use Rattle.store.specs.Layout.{LayoutFits}
 use Rattle.store.specs.Slot.{slotPart, countWord}
 use Rattle.store.specs.Splice.{elementsIn}
 use Rattle.store.proofs.SlotWrites.{drop-take}
@@ -34,9 +35,13 @@ run-in-slot part first size within =
     rw (e, drop-take (2 * first) rest (drop 8 part), take-take (2 * size) rest _ h, drop-drop)
 
 -- a run is as long as its elements are
-run-long : (part : List ℕ) (first size : ℕ) → RunWithin part first size → length (runWords (elementsIn part) first size) ≡ 2 * size
+pub run-long : (part : List ℕ) (first size : ℕ) → RunWithin part first size → length (runWords (elementsIn part) first size) ≡ 2 * size
 run-long part first size run =
     length-take-le (2 * size) (drop (2 * first) (elementsIn part)) (omega (arith, run .within, length-drop (2 * first) (elementsIn part), elements-long part (run .laid)))
+
+-- a run has no words beside
+pub run-whole : (elements : List ℕ) (first size : ℕ) → take (2 * size) (runWords elements first size) ≡ runWords elements first size
+run-whole elements first size = take-take (2 * size) (2 * size) (drop (2 * first) elements) (omega arith)
 
 -- words that were copied from where the run begins, out of the part `&part[8 + 2 * first..]`
 pub run-pasted : (part target : List ℕ) (at first size : ℕ) {copied : List ℕ} → RunWithin part first size
@@ -55,8 +60,12 @@ copied-front target source n h = take-at (take n source) _ n (length-take-le n s
 pub run-copied : (part target : List ℕ) (first size : ℕ) {copied : List ℕ} → RunWithin part first size → copied ≡ paste target 0 (runWords (elementsIn part) first size) (2 * size)
     → take (2 * size) copied ≡ runWords (elementsIn part) first size
 run-copied part target first size run c =
-    rw (c, copied-front target (runWords (elementsIn part) first size) (2 * size) (omega (arith, run-long part first size run)))
-    (take-take (2 * size) (2 * size) (drop (2 * first) (elementsIn part)) (omega arith))
+    rw (c, copied-front target (runWords (elementsIn part) first size) (2 * size) (omega (arith, run-long part first size run))) (run-whole (elementsIn part) first size)
+
+-- a run has room in every slot
+pub run-fits : {layout : Layout} {words : List ℕ} {slot first size : ℕ} → LayoutFits layout words → slot < layout .slots
+    → RunWithin (slotPart (layout .width) words slot) first size → 8 + 2 * size ≤ layout .width
+run-fits {layout} {words} {slot} fits below run = omega (arith, run .laid, run .within, slot-long layout words slot fits below)
 
 -- all elements are a run
 pub whole-run : (part : List ℕ) → runWords (elementsIn part) 0 (countWord part) ≡ elementsIn part

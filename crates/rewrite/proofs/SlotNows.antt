@@ -3,15 +3,15 @@ use Prim.Native.Nat.{ℕ, _+_, _-_, _*_, _≤_, _<_}
 use native.Mathlib.Omega.{arith}
 use mathlib.Core.Path.{_≡_, refl, ap, sym, _∙_}
 use mathlib.Core.List.{List, [], _∷_, _++_, append-assoc}
-use lib.ListN.{length, getD, take, drop, set, length-drop, length-set, List·getD-append}
-use lib.Seq.{paste, length-paste, take-at, drop-at, length-take-le, getD-take, getD-set-same, getD-set-other}
+use lib.ListN.{length, getD, take, drop, set, length-drop, List·getD-append}
+use lib.Seq.{paste, length-paste, take-at, drop-at, length-take-le, getD-take, getD-set-same, getD-set-other, drop-set-lt}
 use Rattle.pktree.specs.Elements.{size}
 use Rattle.store.specs.Slot.{levelWord, codeWord, countWord}
 use Rattle.store.specs.Splice.{elementsIn, CanSplice, Spliced, withHeader}
 use Rattle.store.specs.Placed.{Placed, forestOf}
 use Rattle.store.proofs.Standing.{elementWords, SlotSays}
 use Rattle.store.proofs.PlacedJoin.{length-element-words}
-use Rattle.rewrite.specs.Rewrite.{SlotNow, WroteSlot}
+use Rattle.rewrite.specs.Rewrite.{SlotNow}
 
 -- a slot that says placed elements says their words
 pub says-now : {part : List ℕ} {level code : ℕ} {es : Placed} → SlotSays part level code es → SlotNow part level code (elementWords es)
@@ -41,27 +41,32 @@ header-says (a ∷ []) level code count h = absurd (omega arith)
 header-says (a ∷ b ∷ []) level code count h = absurd (omega arith)
 header-says (a ∷ b ∷ c ∷ part) level code count h = (refl, refl, refl)
 
--- three words of the header set, and the elements copied behind it
-pub slot-wrote : (part source : List ℕ) (level code count : ℕ) {headed after : List ℕ} → 8 + 2 * count ≤ length part → 2 * count ≤ length source
-    → headed ≡ withHeader part level code count → after ≡ paste headed 8 source (2 * count) → WroteSlot part level code (take (2 * count) source) after
-slot-wrote part source level code count {headed} {after} room there h p =
+-- elements copied to their place leave the header
+pub header-kept : (part source : List ℕ) (n : ℕ) → 8 ≤ length part → countWord (paste part 8 source n) ≡ countWord part
+header-kept part source n long =
+    let front : length (take 8 part) ≡ 8 = length-take-le 8 part long in
+    rw (append-assoc (take 8 part) (take n source) (drop (8 + n) part), List·getD-append (take 8 part) (take n source ++ drop (8 + n) part) 0 2 (omega arith)) (getD-take 8 part 2 0 (omega arith))
+
+-- a header leaves the elements
+elements-kept : (part : List ℕ) (level code count : ℕ) → drop 8 (withHeader part level code count) ≡ drop 8 part
+elements-kept part level code count =
+    drop-set-lt 8 (set (set part 0 level) 1 code) 2 count (omega arith) ∙ drop-set-lt 8 (set part 0 level) 1 code (omega arith) ∙ drop-set-lt 8 part 0 level (omega arith)
+
+-- elements copied to their place, and the three words of the header set
+pub slot-wrote : (part source : List ℕ) (level code count : ℕ) → 8 + 2 * count ≤ length part → 2 * count ≤ length source
+    → SlotNow (withHeader (paste part 8 source (2 * count)) level code count) level code (take (2 * count) source)
+slot-wrote part source level code count room there =
     let n : ℕ = 2 * count in
-    let long : length headed ≡ length part = rw h (simp length-set) in
-    let front : length (take 8 headed) ≡ 8 = length-take-le 8 headed (omega arith) in
+    let laid : List ℕ = paste part 8 source n in
+    let front : length (take 8 part) ≡ 8 = length-take-le 8 part (omega arith) in
     let source-long : length (take n source) ≡ n = length-take-le n source there in
-    let parts : after ≡ take 8 headed ++ (take n source ++ drop (8 + n) headed) = p ∙ append-assoc (take 8 headed) (take n source) _ in
-    let word : (i : ℕ) → i < 8 → getD after i 0 ≡ getD (withHeader part level code count) i 0 =
-    λ i b. rw (parts, List·getD-append (take 8 headed) _ 0 i (rw front b), getD-take 8 headed i 0 b, h) in
-    let says = header-says part level code count (omega arith) in
-    let count-is : countWord after ≡ count = word 2 (omega arith) ∙ says .2 in
+    let behind : drop 8 laid ≡ take n source ++ drop (8 + n) part = rw append-assoc (drop-at (take 8 part) (take n source ++ drop (8 + n) part) 8 front) in
+    let says = header-says laid level code count (omega (arith, length-paste part 8 source n room there)) in
     record {
-      now-says = record {
-        level-is = word 0 (omega arith) ∙ says .0;
-        code-is = word 1 (omega arith) ∙ says .1;
-        count-is = rw (count-is, source-long);
-        elements-are = rw (count-is, parts, drop-at (take 8 headed) (take n source ++ drop (8 + n) headed) 8 front, take-at (take n source) _ n source-long);
-      };
-      long = rw p (length-paste headed 8 source n (omega arith) there) ∙ long;
+      level-is = says .0;
+      code-is = says .1;
+      count-is = rw (says .2, source-long);
+      elements-are = rw (says .2, elements-kept laid level code count, behind, take-at (take n source) _ n source-long);
     }
 
 -- a spliced slot keeps its level and its code, and says the elements that the splice gives

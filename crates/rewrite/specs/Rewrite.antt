@@ -3,11 +3,13 @@ use Prim.Native.Nat.{ℕ, _+_, _*_, _≤_, _<_}
 use mathlib.Core.Path.{_≡_}
 use mathlib.Core.List.{List, [], _∷_, _++_}
 use lib.ListN.{length, getD, take, drop, set}
+use lib.Seq.{paste}
 use Rattle.store.specs.declared.sizes.Layout.{Layout}
 use Rattle.store.specs.Layout.{LayoutFits}
 use Rattle.store.specs.Slot.{slotPart, levelWord, codeWord, countWord, nextWord, OnlySlot}
 use Rattle.store.specs.Splice.{elementsIn, Spliced}
 use Rattle.store.specs.FreeSlots.{Released}
+use Rattle.store.proofs.SlotWrites.{SlotWritten}
 use Rattle.rewrite.specs.declared.Forming.{Forming}
 use Rattle.rewrite.specs.declared.Forming.the-variants.{Formed, NoSlot}
 
@@ -17,15 +19,6 @@ pub record SlotNow (part : List ℕ) (level code : ℕ) (elements : List ℕ) : 
   pub code-is : codeWord part ≡ code
   pub count-is : 2 * countWord part ≡ length elements
   pub elements-are : elementsIn part ≡ elements
-
-pub record WroteSlot (before : List ℕ) (level code : ℕ) (elements after : List ℕ) : Type 0 where
-  pub now-says : SlotNow after level code elements
-  pub long : length after ≡ length before
-
--- a slot of the store that was written anew, and no other
-pub record RewroteSlot (width slot level code : ℕ) (elements before after : List ℕ) : Type 0 where
-  pub now-says : SlotNow (slotPart width after slot) level code elements
-  pub only : OnlySlot width slot before after
 
 pub record SplicedSlot (width slot place removed inserted : ℕ) (source before after : List ℕ) : Type 0 where
   pub spliced : Spliced (slotPart width before slot) source place removed inserted (slotPart width after slot)
@@ -68,6 +61,11 @@ runWords elements first size = take (2 * size) (drop (2 * first) elements)
 
 abbrev pub withBlock : List ℕ → ℕ → ℕ → List ℕ → List ℕ
 withBlock elements first size one = take (2 * first) elements ++ (one ++ drop (2 * (first + size)) elements)
+
+-- the run stands as the first elements of the other slot, the header of which is as it was
+abbrev pub RunMoved : ℕ → ℕ → ℕ → ℕ → ℕ → List ℕ → List ℕ → Type 0
+RunMoved width slot first size other before after =
+    SlotWritten width other before (paste (slotPart width before other) 8 (runWords (elementsIn (slotPart width before slot)) first size) (2 * size)) after
 
 -- the first free slot holds the run as a block, and the slot has one element in the run's place
 pub record BlockFormed (layout : Layout) (slot level code first size fresh : ℕ) (before after : List ℕ) : Type 0 where

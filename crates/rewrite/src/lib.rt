@@ -1,12 +1,13 @@
 // Rewriting slots: each is lent on for writing as a part of the store.
 ghost use Prim.Native.Nat.{_+_, _*_, _≤_, _<_};
 ghost use mathlib.Core.Path.{_≡_};
-ghost use lib.ListN.{length, take};
+ghost use lib.ListN.{length};
 ghost use lib.Seq.{paste};
 ghost use Rattle.store.specs.Layout.{LayoutFits};
 ghost use Rattle.store.specs.Slot.{slotPart};
-ghost use Rattle.store.specs.Splice.{elementsIn, CanSplice};
-ghost use Rattle.rewrite.specs.Rewrite.{RunWithin, CanCut, CanLayBeside, CanHandUp, runWords, WroteSlot, RewroteSlot, SplicedSlot, LaidBeside, FormMeets, HandedUpBlock, HandedUpAll};
+ghost use Rattle.store.specs.Splice.{elementsIn, CanSplice, withHeader};
+ghost use Rattle.store.proofs.SlotWrites.{SlotWritten};
+ghost use Rattle.rewrite.specs.Rewrite.{RunWithin, CanCut, CanLayBeside, CanHandUp, runWords, SplicedSlot, RunMoved, LaidBeside, FormMeets, HandedUpBlock, HandedUpAll};
 use store::elements::copy_words;
 use store::elements::splice;
 use store::elements::write_header;
@@ -18,32 +19,25 @@ use store::slots::offset;
 use store::slots::slot_part;
 use store::slots::wide;
 
-// The words of a slot written anew.
-fn write_slot(part: &mut [u32], level: u32, code: u32, source: &[u32], count: usize)
-    requires { ⌜ ((8 + 2 * count ≤ length (now part)) × (length (now part) ≤ 158)) × (2 * count ≤ length (now source)) ⌝ }
-    ensures { λ _. ⌜ WroteSlot (now (part .entry)) level code (take (2 * count) (now (source .entry))) (now (part .exit)) ⌝ }
-{
-    write_header(part, level, code, count as u32);
-    copy_words(part, 8, source, 2 * count);
-}
-
-// The same of a slot of the store.
-fn rewrite_slot(
-    store: &mut [u32],
-    layout: Layout,
-    slot: usize,
-    level: u32,
-    code: u32,
-    source: &[u32],
-    count: usize,
-)
+// The elements of a slot written anew, but not yet their number.
+fn lay_elements(store: &mut [u32], layout: Layout, slot: usize, source: &[u32], count: usize)
     requires { ⌜ LayoutFits layout (now store) × (slot < layout .slots) ⌝ }
     requires { ⌜ (8 + 2 * count ≤ layout .width) × (2 * count ≤ length (now source)) ⌝ }
-    ensures { λ _. ⌜ RewroteSlot (layout .width) slot level code (take (2 * count) (now (source .entry))) (now (store .entry)) (now (store .exit)) ⌝ }
+    ensures { λ _. ⌜ SlotWritten (layout .width) slot (now (store .entry)) (paste (slotPart (layout .width) (now (store .entry)) slot) 8 (now (source .entry)) (2 * count)) (now (store .exit)) ⌝ }
 {
     let at = offset(layout, slot);
     let width = layout.width;
-    write_slot(&mut store[at..at + width], level, code, source, count);
+    copy_words(&mut store[at..at + width], 8, source, 2 * count);
+}
+
+// The header of a slot written anew.
+fn head_slot(store: &mut [u32], layout: Layout, slot: usize, level: u32, code: u32, count: usize)
+    requires { ⌜ (LayoutFits layout (now store) × (slot < layout .slots)) × (count ≤ 75) ⌝ }
+    ensures { λ _. ⌜ SlotWritten (layout .width) slot (now (store .entry)) (withHeader (slotPart (layout .width) (now (store .entry)) slot) level code count) (now (store .exit)) ⌝ }
+{
+    let at = offset(layout, slot);
+    let width = layout.width;
+    write_header(&mut store[at..at + width], level, code, count as u32);
 }
 
 // 01: a slot being rewritten is lent on for writing as a part of the store.
@@ -74,6 +68,17 @@ fn copy_run(target: &mut [u32], at: usize, part: &[u32], first: usize, size: usi
     copy_words(target, at, &part[from..], 2 * size);
 }
 
+// A run of a slot's elements laid as the first elements of a slot, of the same one too.
+fn move_run(store: &mut [u32], layout: Layout, slot: usize, first: usize, size: usize, other: usize)
+    requires { ⌜ LayoutFits layout (now store) × ((slot < layout .slots) × (other < layout .slots)) ⌝ }
+    requires { ⌜ RunWithin (slotPart (layout .width) (now store) slot) first size ⌝ }
+    ensures { λ _. ⌜ RunMoved (layout .width) slot first size other (now (store .entry)) (now (store .exit)) ⌝ }
+{
+    let mut moved = [0u32; 150];
+    copy_run(&mut moved, 0, slot_part(store, layout, slot), first, size);
+    lay_elements(store, layout, other, &moved, size);
+}
+
 pub enum Forming {
     Formed,
     NoSlot,
@@ -95,11 +100,10 @@ pub fn form_block(
     let FreeSlot::Taken(fresh) = take_free(store, layout) else {
         return Forming::NoSlot;
     };
-    let mut moved = [0u32; 150];
-    copy_run(&mut moved, 0, slot_part(store, layout, slot), first, size);
+    move_run(store, layout, slot, first, size, wide(fresh));
     let one = [code, 1 + fresh + level * 1048576];
     splice_slot(store, layout, slot, first, size, &one, 1);
-    rewrite_slot(store, layout, wide(fresh), level, code, &moved, size);
+    head_slot(store, layout, wide(fresh), level, code, size);
     Forming::Formed
 }
 
@@ -148,9 +152,8 @@ pub fn hand_up_block(
         size,
         scratch,
     );
-    let mut moved = [0u32; 150];
-    copy_run(&mut moved, 0, slot_part(store, layout, slot), first, size);
-    rewrite_slot(store, layout, slot, level, code, &moved, size);
+    move_run(store, layout, slot, first, size, slot);
+    head_slot(store, layout, slot, level, code, size);
     rest
 }
 

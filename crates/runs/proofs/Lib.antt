@@ -1,2 +1,3 @@
+mod BlockSizes
 pub mod Runs
 pub mod SlotCodes

@@ -13,12 +13,8 @@ use Rattle.pktree.proofs.Alignment.{pow-pos}
 use Rattle.store.specs.Splice.{codeAt, PlaceOf}
 use Rattle.runs.specs.Run.{Near, codesFrom, countNear, AscendingCodes, LevelBefore, LevelAt, ReachedLeft, ReachedRight, IsRun}
 
--- codes that have a common block of this level are near
-pub near-at : {c code r : ℕ} (level : ℕ) → CommonLevel c code r → r ≤ level → Near level code c
-near-at {c} {code} level l h = block-up c code h (l .common)
-
--- and codes whose common block is higher are not
-pub not-near-at : {c code r : ℕ} (level : ℕ) → CommonLevel c code r → level < r → Near level code c → ⊥
+-- codes whose common block is higher are not near
+not-near-at : {c code r : ℕ} (level : ℕ) → CommonLevel c code r → level < r → Near level code c → ⊥
 not-near-at level l h e = omega (arith, l .least level e)
 
 -- a level of the panel is that of an element, which there is
@@ -89,6 +85,15 @@ module _ {part : List ℕ} {count code place : ℕ} (ascending : AscendingCodes 
         after = λ i a b e. r .ends (omega arith) (near-after reached end i (omega arith) (omega arith) b e);
         least = o .few;
       }
+
+  -- where few are near at a level, lower blocks hold no more
+  pub few-reached : {level left right : ℕ} (k h : ℕ) → ReachedLeft part place code level left → ReachedRight part count place code level right → right - left < k → h ≤ level
+      → countNear h code (codesFrom part 0 count) < k
+  few-reached {level} {left} {right} k h l r room low =
+      omega (arith, near-count h code part count 0 left right (λ j a b e.
+        let n : Near level code (codeAt part j) = block-up _ _ low e in
+        let from : left < suc j = lt-of-not-le (λ w. l .ends (left - 1) (omega arith) (near-before level j (left - 1) (omega arith) (omega (arith, l .within)) n)) in
+        (omega arith, lt-of-not-le (λ w. r .ends (omega arith) (near-after level right j (r .low) w (omega arith) n)))))
 
   module _ {left right below above : ℕ} (p : left ≤ place) (q : place ≤ right) (low : LevelBefore part left code below) (high : LevelAt part count right code above) where
     -- neither side's next element is near at a lower level, so none farther out is

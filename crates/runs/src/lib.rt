@@ -1,6 +1,8 @@
 // Where a block is to be formed: the run of elements that it takes. It only reads.
-ghost use Prim.Native.Nat.{_+_, _*_, _≤_, _<_};
+ghost use Prim.Native.Nat.{_+_, _*_, _^_, _≤_, _<_};
+ghost use mathlib.Core.Path.{_≡_};
 ghost use lib.ListN.{length};
+ghost use Rattle.store.specs.Splice.{PlaceOf};
 ghost use Rattle.runs.specs.Run.{Counted, LevelAt, LevelBefore, ReachedLeft, ReachedRight, RunMeets};
 use store::elements::find_place;
 
@@ -33,17 +35,27 @@ pub fn level_before(part: &[u32], count: usize, i: usize, code: u32) -> u32
     if i == 0 {
         return 17;
     }
-    level_at(part, count, i - 1, code)
+    morton::common_level(part[6 + 2 * i], code)
+}
+
+// How many codes a block of this level has.
+pub fn block_size(level: u32) -> u32
+    requires { ⌜ level ≤ 15 ⌝ }
+    ensures { λ r. ⌜ r ≡ 4 ^ level ⌝ }
+{
+    1u32 << (2 * level)
 }
 
 // How far to the left of `from` the elements in the block of this level around the code reach.
 pub fn reach_left(part: &[u32], count: usize, from: usize, code: u32, level: u32) -> usize
-    requires { ⌜ Counted (now part) count × (from ≤ count) ⌝ }
+    requires { ⌜ (Counted (now part) count × (from ≤ count)) × (level ≤ 15) ⌝ }
     ensures { λ r. ⌜ ReachedLeft (now (part .entry)) from code level r ⌝ }
 {
+    let size = block_size(level);
+    let block = code / size;
     let mut left = from;
     while 0 < left {
-        if level < level_before(part, count, left, code) {
+        if part[6 + 2 * left] / size != block {
             return left;
         }
         left -= 1;
@@ -52,12 +64,14 @@ pub fn reach_left(part: &[u32], count: usize, from: usize, code: u32, level: u32
 }
 
 pub fn reach_right(part: &[u32], count: usize, from: usize, code: u32, level: u32) -> usize
-    requires { ⌜ Counted (now part) count × (from ≤ count) ⌝ }
+    requires { ⌜ (Counted (now part) count × (from ≤ count)) × (level ≤ 15) ⌝ }
     ensures { λ r. ⌜ ReachedRight (now (part .entry)) count from code level r ⌝ }
 {
+    let size = block_size(level);
+    let block = code / size;
     let mut right = from;
     while right < count {
-        if level < level_at(part, count, right, code) {
+        if part[8 + 2 * right] / size != block {
             return right;
         }
         right += 1;
@@ -65,31 +79,50 @@ pub fn reach_right(part: &[u32], count: usize, from: usize, code: u32, level: u3
     right
 }
 
+// The place of the code among the elements: mostly where the caller looks for it, else searched.
+fn place_of(part: &[u32], count: usize, near: usize, code: u32) -> usize
+    requires { ⌜ Counted (now part) count × (near ≤ count) ⌝ }
+    ensures { λ r. ⌜ PlaceOf (now (part .entry)) count code r ⌝ }
+{
+    if 0 < near {
+        if code < part[6 + 2 * near] {
+            return find_place(part, count, code);
+        }
+    }
+    if near < count {
+        if part[8 + 2 * near] <= code {
+            return find_place(part, count, code);
+        }
+    }
+    near
+}
+
 // The least level below the block's own at which the block around the code holds k of the elements; these are one run, found going
 // outwards from the code's place by the levels of common blocks.
-pub fn find_run(part: &[u32], count: usize, level: u32, k: usize, code: u32) -> Run
-    requires { ⌜ Counted (now part) count × ((level ≤ 16) × ((2 ≤ k) × (k ≤ 16))) ⌝ }
+pub fn least_run(part: &[u32], count: usize, place: usize, level: u32, k: usize, code: u32) -> Run
+    requires { ⌜ (Counted (now part) count × PlaceOf (now part) count code place) × ((level ≤ 16) × ((2 ≤ k) × (k ≤ 16))) ⌝ }
     ensures { λ r. ⌜ RunMeets (now (part .entry)) count level k code r ⌝ }
 {
-    let place = find_place(part, count, code);
     let mut left = place;
     let mut right = place;
+    let mut below = level_before(part, count, place, code);
+    let mut above = level_at(part, count, place, code);
     let mut reached: u32 = 0;
     while right - left < k {
-        let below = level_before(part, count, left, code);
-        let above = level_at(part, count, right, code);
         if below <= above {
             if level <= below {
                 return Run::Nothing;
             }
             reached = below;
             left -= 1;
+            below = level_before(part, count, left, code);
         } else {
             if level <= above {
                 return Run::Nothing;
             }
             reached = above;
             right += 1;
+            above = level_at(part, count, right, code);
         }
     }
     let first = reach_left(part, count, left, code, reached);
@@ -99,4 +132,21 @@ pub fn find_run(part: &[u32], count: usize, level: u32, k: usize, code: u32) -> 
         first,
         length: end - first,
     }
+}
+
+// The run that is to be a block. Mostly there is none, as the quarter of the block around the code holds fewer than k elements.
+pub fn find_run(part: &[u32], count: usize, near: usize, level: u32, k: usize, code: u32) -> Run
+    requires { ⌜ (Counted (now part) count × (near ≤ count)) × ((level ≤ 16) × ((2 ≤ k) × (k ≤ 16))) ⌝ }
+    ensures { λ r. ⌜ RunMeets (now (part .entry)) count level k code r ⌝ }
+{
+    if level < 1 {
+        return Run::Nothing;
+    }
+    let place = place_of(part, count, near, code);
+    let left = reach_left(part, count, place, code, level - 1);
+    let right = reach_right(part, count, place, code, level - 1);
+    if right - left < k {
+        return Run::Nothing;
+    }
+    least_run(part, count, place, level, k, code)
 }

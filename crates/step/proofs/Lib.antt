@@ -1,4 +1,3 @@
-pub mod BlockSizes
 pub mod PutLaws
 pub mod PlacedWords
 pub mod StepLaws

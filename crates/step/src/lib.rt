@@ -134,7 +134,8 @@ pub fn step(
     if 16 < level {
         return Stepped::Damaged;
     }
-    match find_run(part, count, level, change.k, change.code) {
+    let near = place + inserted;
+    match find_run(part, count, near, level, change.k, change.code) {
         Run::Nothing => {
             if root {
                 return Stepped::Done;

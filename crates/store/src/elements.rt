@@ -1,6 +1,6 @@
 ghost use Prim.Native.Nat.{_+_, _*_, _≤_, _<_};
 ghost use mathlib.Core.Path.{_≡_};
-ghost use lib.ListN.{length};
+ghost use lib.ListN.{length, drop};
 ghost use lib.Seq.{paste};
 ghost use Rattle.store.specs.Element.{elementAt};
 ghost use Rattle.store.specs.Splice.{PlaceOf, CanSplice, Spliced, withHeader};
@@ -60,19 +60,26 @@ pub fn copy_words(target: &mut [u32], at: usize, source: &[u32], count: usize)
     }
 }
 
+// Words of one slot go elsewhere in it, over their own old place too; the compiler makes one move of the two copies, without the buffer.
+fn move_words(part: &mut [u32], from: usize, to: usize, count: usize)
+    requires { ⌜ ((from + count ≤ length (now part)) × (to + count ≤ length (now part))) × (count ≤ 150) ⌝ }
+    ensures { λ _. ⌜ now (part .exit) ≡ paste (now (part .entry)) to (drop from (now (part .entry))) count ⌝ }
+{
+    let mut aside = [0u32; 150];
+    copy_words(&mut aside, 0, &part[from..], count);
+    copy_words(part, to, &aside, count);
+}
+
 // In one slot, `removed` elements from `place` on give way to the first `inserted` elements of `source`.
 pub fn splice(part: &mut [u32], place: usize, removed: usize, source: &[u32], inserted: usize)
     requires { ⌜ CanSplice (now part) (now source) place removed inserted ⌝ }
     ensures { λ _. ⌜ Spliced (now (part .entry)) (now (source .entry)) place removed inserted (now (part .exit)) ⌝ }
 {
     let count = wide(part[2]);
-    let mut tail = [0u32; 150];
     let left = 2 * (count - place - removed);
-    let from = 8 + 2 * (place + removed);
-    copy_words(&mut tail, 0, &part[from..], left);
     let at = 8 + 2 * place;
+    move_words(part, at + 2 * removed, at + 2 * inserted, left);
     copy_words(part, at, source, 2 * inserted);
-    copy_words(part, at + 2 * inserted, &tail, left);
     part[2] = (count - removed + inserted) as u32;
 }
 

@@ -1,7 +1,12 @@
 -- `rewrite::hand_up_block` meets its contract: the scratch has what lies beside the run, and the slot is written anew with the run.
 use native.Mathlib.Omega.{arith}
+use Prim.Native.Nat.{ℕ}
+use mathlib.Core.Path.{refl}
+use mathlib.Core.List.{List}
 use borrow.Author.Needs.{needs}
-use Rattle.rewrite.proofs.Runs.{run-within, run-copied}
+use Rattle.store.specs.Slot.{slotPart}
+use Rattle.rewrite.proofs.Runs.{run-within}
+use Rattle.rewrite.proofs.Moves.{moved-now, only-twice}
 use Rattle.rewrite.proofs.hand_up_block.Statement.{statement}
 use Rattle.rewrite.proofs.hand_up_block.Tie as tie
 
@@ -17,28 +22,26 @@ lay-beside-requires c κs =
       room = s .pre .room;
     }
 
-copy-run-requires : tie.Need-copy-run-requires
-copy-run-requires c κs =
-    let s = c .before .before .before .before .before .before .before .before .before .before .before in
-    (run-within (s .pre .cut) (c .slot-part2 .ensures), omega (arith, s .pre .cut))
+move-run-requires : tie.Need-move-run-requires
+move-run-requires c κs =
+    let cut = c .before .before .before .before .before .before .before .before .before .pre .cut in
+    ((cut .fits, (cut .slot-below, cut .slot-below)), run-within cut refl)
 
 returns : tie.Need-returns
 returns c =
-    let wrote = c .before .before .rewrite-slot in
-    let copied = c .before .before .before .before .before .before in
-    let part = copied .before .slot-part2 in
-    let laid = copied .before .before .before .before .before .before in
+    let headed = c .before .before .head-slot .ensures in
+    let moved = c .before .before .before .before .before .before in
+    let laid = moved .before .before .before .before in
     let s = laid .before .before .before .before .before .before in
-    let a = s .args in
-    let first-part = laid .before .before .slot-part in
-    let beside = rw (first-part .ensures) at (laid .lay-beside .ensures) in
-    let run = rw (part .ensures) at (run-copied _ _ (a .first) (a .size) (run-within (s .pre .cut) (part .ensures)) (copied .copy-run .ensures)) in
+    let beside = rw (laid .before .before .slot-part .ensures) at (laid .lay-beside .ensures) in
+    let cut = s .pre .cut in
+    let part : List ℕ = slotPart (s .args .layout .width) (moved .move-run .last .0) (s .args .slot) in
     record {
       rest-is = beside .rest-is;
       long = beside .long;
       handed = beside .handed;
-      taken-over = rw (← run) (wrote .ensures .now-says);
-      only = wrote .ensures .only;
+      taken-over = rw (headed .self) (moved-now {part = part} (s .args .code) cut (cut .slot-below) (moved .move-run .ensures .self));
+      only = only-twice (moved .move-run .ensures .only) (headed .only);
     }
 
 pub hand-up-block-spec : {M : Type 1} → statement M
@@ -47,10 +50,7 @@ hand-up-block-spec =
     (tie.spec
     (λ c κs. search needs)
     lay-beside-requires
-    (λ c. search needs)
-    (λ c κs. search needs)
-    copy-run-requires
-    (λ c. search needs)
+    move-run-requires
     (λ c κs. search needs)
     (λ c. search needs)
     (λ c. search needs)

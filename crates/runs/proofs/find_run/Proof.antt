@@ -1,92 +1,26 @@
--- `runs::find_run` meets its contract: all from `left` up to `right` are near at the level reached, and no lower block holds k.
-use Prim.Native.Nat.{_-_, _≤_, _<_}
+-- `runs::find_run` meets its contract: where the quarter around the code holds fewer than k elements, so does every lower block.
 use native.Mathlib.Omega.{arith}
 use borrow.Author.Needs.{needs}
-use Rattle.runs.specs.Run.{AscendingCodes}
-use Rattle.runs.proofs.Runs.{Outward, some-before, some-at, few-near, take-left, take-right, run-found}
+use Rattle.runs.proofs.Runs.{few-reached}
 use Rattle.runs.proofs.find_run.Statement.{statement}
 use Rattle.runs.proofs.find_run.Tie as tie
 
-abbrev Inv-loop : tie.InvT-loop
-Inv-loop part count level k code place left₀ right₀ reached₀ left right reached =
-    ((left ≤ place) × (place ≤ right) × (right ≤ count) × (right - left ≤ k) × (left < right → reached < level))
-    × (AscendingCodes part count → Outward part count k code left right reached)
+returns : tie.Need-returns
+returns c = λ ascending h s. absurd (omega arith)
 
-abbrev μ-loop : tie.MeasureT-loop
-μ-loop part count level k code place left₀ right₀ reached₀ left right reached = k - (right - left)
-
-returns : tie.Need-returns Inv-loop μ-loop
-returns c =
-    let l = c .before .before .before .before .before .loop in
-    let at = c .before .before .before .before .before .before .find-place .ensures in
-    let below = c .before .before .before .level-before .ensures in
-    let above = c .before .before .level-at .ensures in
-    λ ascending h s. few-near ascending at (l .inv .0 .0) (l .inv .0 .1) below above _ h (omega arith) (omega arith) (omega arith)
-
-sub-left : tie.Need-sub-left Inv-loop μ-loop
-sub-left c = omega (arith, some-before (c .before .before .before .level-before .ensures) (omega arith))
-
-loop-less : tie.Need-loop-less Inv-loop μ-loop
-loop-less c = omega (arith, some-before (c .before .before .before .level-before .ensures) (omega arith))
-
-loop-again : tie.Need-loop-again Inv-loop μ-loop
-loop-again c =
-    let l = c .before .before .before .before .before .loop in
-    let at = c .before .before .before .before .before .before .find-place .ensures in
-    let below = c .before .before .before .level-before .ensures in
-    let above = c .before .before .level-at .ensures in (
-      omega (arith, some-before below (omega arith)),
-      λ ascending. take-left ascending at (l .inv .0 .0) (l .inv .0 .1) below above (c .before .if1 .taken) (omega arith) (l .inv .0 .2) (omega arith) (l .inv .1 ascending),
-    )
-
-returns-2 : tie.Need-returns-2 Inv-loop μ-loop
+returns-2 : tie.Need-returns-2
 returns-2 c =
-    let l = c .before .before .before .before .before .loop in
-    let at = c .before .before .before .before .before .before .find-place .ensures in
-    let below = c .before .before .before .level-before .ensures in
-    let above = c .before .before .level-at .ensures in
-    λ ascending h s. few-near ascending at (l .inv .0 .0) (l .inv .0 .1) below above _ h (omega arith) (omega arith) (omega arith)
-
-loop-again-2 : tie.Need-loop-again-2 Inv-loop μ-loop
-loop-again-2 c =
-    let l = c .before .before .before .before .before .loop in
-    let at = c .before .before .before .before .before .before .find-place .ensures in
-    let below = c .before .before .before .level-before .ensures in
-    let above = c .before .before .level-at .ensures in (
-      omega (arith, some-at above (omega arith)),
-      λ ascending. take-right ascending at (l .inv .0 .0) (l .inv .0 .1) below above (c .before .if1 .left) (omega arith) (omega arith) (l .inv .1 ascending),
-    )
-
-returns-3 : tie.Need-returns-3 Inv-loop μ-loop
-returns-3 c =
-    let l = c .before .before .before .loop in
-    record {
-      low = l .inv .0 .4 (omega arith);
-      within = omega arith;
-      many = omega arith;
-      right = λ ascending. run-found ascending (c .before .before .before .before .find-place .ensures) (l .inv .0 .0) (l .inv .0 .1) (l .inv .1 ascending) (c .before .reach-left .ensures) (c .reach-right .ensures);
-    }
+    λ ascending h s. few-reached ascending (c .before .before .before .place-of .ensures) _ h (c .before .before .reach-left .ensures) (c .before .reach-right .ensures) (c .if2 .taken) (omega arith)
 
 pub find-run-spec : {M : Type 1} → statement M
 find-run-spec =
     tie.close
     (tie.spec
-    Inv-loop
-    μ-loop
-    (λ c κs. search needs)
-    (λ c. search needs)
-    (λ c. search needs)
-    (λ c κs. search needs)
-    (λ c κs. search needs)
     returns
-    sub-left
-    loop-less
-    loop-again
+    (λ c κs. search needs)
+    (λ c κs. search needs)
+    (λ c κs. search needs)
+    (λ c. search needs)
     returns-2
-    (λ c. search needs)
-    (λ c. search needs)
-    loop-again-2
     (λ c κs. search needs)
-    (λ c κs. search needs)
-    (λ c. search needs)
-    returns-3)
+    (λ c. search needs))

@@ -35,7 +35,7 @@ find-run-requires c κs =
     let at = c .before .before in
     let p = at .before .before .before in
     let s = p .before .before .before .before .before .before .before .before .before .before in
-    (can-search (s .pre .0) (placed p) (at .slot-part .ensures), (c .if1 .left, s .pre .1))
+    ((can-search (s .pre .0) (placed p) (at .slot-part .ensures), omega (arith, placed p .0, placed p .1 .cut)), (c .if1 .left, s .pre .1))
 
 returns-3 : tie.Need-returns-3
 returns-3 c =
@@ -105,6 +105,7 @@ step-spec =
     (λ c. search needs)
     (λ c. search needs)
     returns-2
+    (λ c. search needs)
     find-run-requires
     (λ c. search needs)
     (λ c. search needs)

@@ -1,4 +1,4 @@
--- `store::elements::splice` meets its contract: what the three copies and the new number leave is the law of `Splices`.
+-- `store::elements::splice` meets its contract: what the move, the copy and the new number leave is the law of `Splices`.
 use borrow.Author.Needs.{needs}
 use Rattle.store.proofs.Splices.{splice-law}
 use Rattle.store.proofs.elements.splice.Statement.{statement}
@@ -6,14 +6,13 @@ use Rattle.store.proofs.elements.splice.Tie as tie
 
 returns : tie.Need-returns
 returns c =
-    let third = c .before .before in
-    let second = third .before .before .before .before .before in
-    let first = second .before .before .before in
-    let wide = first .before .before .before .before .wide in
-    let start = first .before .before .before .before .before .before .before .before in
+    let laid = c .before .before in
+    let moved = laid .before .before .before .before in
+    let wide = moved .before .before .wide in
+    let start = moved .before .before .before .before .before .before in
     let a = start .args in
-    splice-law (a .part .now) (a .source .now) (a .place) (a .removed) (a .inserted) (start .pre) (wide .result) (wide .ensures) _
-    (first .copy-words .ensures) (second .copy-words2 .ensures) (third .copy-words3 .ensures)
+    splice-law (a .part .now) (a .source .now) (a .place) (a .removed) (a .inserted) (start .pre) (wide .result) (wide .ensures)
+    (moved .move-words .ensures) (laid .copy-words .ensures)
 
 same-length : tie.Need-same-length
 same-length c = returns c .long
@@ -33,15 +32,7 @@ splice-spec =
     (λ c. search needs)
     (λ c. search needs)
     (λ c. search needs)
-    (λ c. search needs)
-    (λ c. search needs)
     (λ c κs. search needs)
-    (λ c. search needs)
-    (λ c. search needs)
-    (λ c. search needs)
-    (λ c κs. search needs)
-    (λ c. search needs)
-    (λ c. search needs)
     (λ c. search needs)
     (λ c κs. search needs)
     (λ c. search needs)
