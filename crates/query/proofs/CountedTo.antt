@@ -3,7 +3,7 @@ use Prim.Native.Nat.{ℕ, suc, _+_, _≤_, _<_}
 use native.Mathlib.Omega.{arith}
 use native.Mathlib.Nat.{add-zero}
 use native.Mathlib.Numerals.{add-one}
-use mathlib.Core.Path.{_≡_, refl, ap, subst, sym, _∙_}
+use mathlib.Core.Path.{_≡_, refl, ap, ap₂, subst, sym, _∙_}
 use mathlib.Core.List.{List}
 use Rattle.pktree.specs.Window.{Window}
 use Rattle.pktree.proofs.Absurd.{zero-is-not-one}
@@ -18,7 +18,7 @@ use Rattle.query.specs.declared.count.Look.{Look}
 use Rattle.query.specs.declared.count.Counted.{Counted}
 use Rattle.query.specs.declared.count.Counted.the-variants.{Seen, Damaged}
 use Rattle.query.specs.Corners.{windowBetween, Ordered}
-use Rattle.query.specs.Counting.{foundIn, CanCount, SlotOpening, seen, RoomFor, CountMeets}
+use Rattle.query.specs.Counting.{foundIn, CanCount, SlotOpening, seen, RoomFor, SeenAtMost, CountMeets}
 use Rattle.query.proofs.CountedElement.{ElementRight, ElementAnswered}
 use Rattle.query.proofs.NextElement.{OneElement, is-pixel, is-block, Passed, none-passed, one-more-passed, all-passed}
 use Rattle.query.proofs.OpenedSlot.{SlotOpened, not-both, view-opens}
@@ -85,8 +85,15 @@ module _ {look : Look} {words : List ℕ} {slot level code found opened : ℕ} w
         → RoomFor look found (suc opened) (forestOf es) → Seen n m ≡ seen (windowBetween (look .corners)) found (suc opened) (forestOf es)
     all-seen k es view ordered room = all-passed _ es _ (omega (arith, o .header .count-is, view .says .count-is)) (to .passed k es view ordered room)
 
-    pub too-many : look .most < n → CountMeets look words slot level code found opened Damaged
-    too-many over =
+    -- the number found is held against the most pixels at the end of a block
+    pub all-counted : (r : Counted) → m ≤ look .layout .slots → SeenAtMost (look .most) n m r → CountMeets look words slot level code found opened r
+    all-counted (Seen p q) few at-most =
+        record {
+          bounds = omega (arith, at-most);
+          right = λ k es view ordered room. ap₂ Seen (at-most .0) (at-most .1) ∙ all-seen k es view ordered room;
+          closed = λ shut. absurd (not-both o shut);
+        }
+    all-counted Damaged few over =
         record {
           bounds = tt;
           right = λ k es view ordered room.
@@ -95,6 +102,3 @@ module _ {look : Look} {words : List ℕ} {slot level code found opened : ℕ} w
               absurd (omega (arith, room .room-found));
           closed = λ shut. refl;
         }
-
-    pub all-counted : n ≤ look .most → m ≤ look .layout .slots → CountMeets look words slot level code found opened (Seen n m)
-    all-counted p q = record { bounds = (p, q); right = all-seen; closed = λ shut. absurd (not-both o shut) }

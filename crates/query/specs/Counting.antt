@@ -73,6 +73,11 @@ pub record PixelCounted (corners : Corners) (code found r : ℕ) : Type 0 where
   pub few : r ≤ found + 1
   pub right : Ordered (windowBetween corners) → r ≡ found + foundIn (windowBetween corners) (pixel code empty)
 
+-- these numbers, unless more pixels are found than may be
+abbrev pub SeenAtMost : ℕ → ℕ → ℕ → Counted → Type 0
+SeenAtMost most found opened (Seen f o) = (f ≡ found) × (o ≡ opened) × (found ≤ most)
+SeenAtMost most found opened Damaged = most < found
+
 -- never more pixels found than N, nor more blocks opened than S
 pub record WithinSizes (words : List ℕ) (found opened : ℕ) : Type 0 where
   pub found-to : found ≤ getD words 3 0

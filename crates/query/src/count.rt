@@ -1,6 +1,6 @@
 ghost use Prim.Native.Nat.{_+_, _*_, _≤_, _<_};
 ghost use mathlib.Core.Path.{_≡_};
-ghost use Rattle.query.specs.Counting.{CanCount, PixelCounted, CountMeets, CountAnswer};
+ghost use Rattle.query.specs.Counting.{CanCount, PixelCounted, SeenAtMost, CountMeets, CountAnswer};
 ghost use Rattle.query.specs.Corners.{windowOf, HasCodes};
 ghost use Rattle.store.specs.Sizes.{UsableStore, sizesOf};
 use crate::opened::open_slot;
@@ -40,6 +40,16 @@ pub fn count_pixel(corners: Corners, code: u32, found: u32) -> u32
     found
 }
 
+// More pixels than 01's N are found on damaged words only.
+pub fn at_most(most: u32, found: u32, opened: u32) -> Counted
+    ensures { λ r. ⌜ SeenAtMost most found opened r ⌝ }
+{
+    if most < found {
+        return Counted::Damaged;
+    }
+    Counted::Seen { found, opened }
+}
+
 // The block in this slot is opened: `found` pixels were found and `opened` blocks opened before it.
 pub fn count_block(
     store: &[u32],
@@ -53,52 +63,32 @@ pub fn count_block(
     requires { ⌜ CanCount look (now store) level found opened ⌝ }
     ensures { λ r. ⌜ CountMeets look (now (store .entry)) slot level code found opened r ⌝ }
 {
-    let layout = look.layout;
-    let corners = look.corners;
-    let Opening::Elements(count) = open_slot(store, layout, slot, level, code, opened) else {
+    let Opening::Elements(count) = open_slot(store, look.layout, slot, level, code, opened) else {
         return Counted::Damaged;
     };
-    let part = slot_part(store, layout, wide(slot));
+    let part = slot_part(store, look.layout, wide(slot));
+    let above = level;
     let mut found_now = found;
     let mut opened_now = opened + 1;
-    let mut i = 0;
-    while i < count {
-        let element = element_at(part, i);
-        match element {
-            Element::Pixel(c) => {
-                found_now = count_pixel(corners, c, found_now);
-            }
-            Element::Block {
-                slot: s,
-                level: l,
-                code: c,
-            } => {
-                if level <= l {
+    for i in 0..count {
+        match element_at(part, i) {
+            Element::Pixel(code) => found_now = count_pixel(look.corners, code, found_now),
+            Element::Block { slot, level, code } => {
+                if above <= level {
                     return Counted::Damaged;
                 }
-                if meets(corners, l, c) {
-                    let answer = count_block(store, look, s, l, c, found_now, opened_now);
-                    let Counted::Seen {
-                        found: f,
-                        opened: o,
-                    } = answer
-                    else {
+                if meets(look.corners, level, code) {
+                    let seen = count_block(store, look, slot, level, code, found_now, opened_now);
+                    let Counted::Seen { found, opened } = seen else {
                         return Counted::Damaged;
                     };
-                    found_now = f;
-                    opened_now = o;
+                    found_now = found;
+                    opened_now = opened;
                 }
             }
         }
-        i += 1;
     }
-    if look.most < found_now {
-        return Counted::Damaged;
-    }
-    Counted::Seen {
-        found: found_now,
-        opened: opened_now,
-    }
+    at_most(look.most, found_now, opened_now)
 }
 
 // 01's count, where refusals 3, 4 and 8 do not apply.
