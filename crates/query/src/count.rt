@@ -68,27 +68,27 @@ pub fn count_block(
     };
     let part = slot_part(store, look.layout, wide(slot));
     let above = level;
-    let mut found_now = found;
-    let mut opened_now = opened + 1;
+    let mut pixels = found;
+    let mut blocks = opened + 1;
     for i in 0..count {
         match element_at(part, i) {
-            Element::Pixel(code) => found_now = count_pixel(look.corners, code, found_now),
+            Element::Pixel(code) => pixels = count_pixel(look.corners, code, pixels),
             Element::Block { slot, level, code } => {
                 if above <= level {
                     return Counted::Damaged;
                 }
                 if meets(look.corners, level, code) {
-                    let seen = count_block(store, look, slot, level, code, found_now, opened_now);
+                    let seen = count_block(store, look, slot, level, code, pixels, blocks);
                     let Counted::Seen { found, opened } = seen else {
                         return Counted::Damaged;
                     };
-                    found_now = found;
-                    opened_now = opened;
+                    pixels = found;
+                    blocks = opened;
                 }
             }
         }
     }
-    at_most(look.most, found_now, opened_now)
+    at_most(look.most, pixels, blocks)
 }
 
 // 01's count, where refusals 3, 4 and 8 do not apply.

@@ -59,12 +59,12 @@ called t = (
 )
 
 abbrev Inv-loop : count-block-lts.InvT-loop
-Inv-loop store look slot level code found opened count part above found-now₀ opened-now₀ i₀ found-now opened-now i =
-    ((i ≤ count) × (found-now + 100 * level ≤ look .most + 1600 + i) × (opened-now ≤ look .layout .slots))
-    × CountedTo look store slot level code found opened i (Seen found-now opened-now)
+Inv-loop store look slot level code found opened count part above pixels₀ blocks₀ i₀ pixels blocks i =
+    ((i ≤ count) × (pixels + 100 * level ≤ look .most + 1600 + i) × (blocks ≤ look .layout .slots))
+    × CountedTo look store slot level code found opened i (Seen pixels blocks)
 
 abbrev μ-loop : count-block-lts.MeasureT-loop
-μ-loop store look slot level code found opened count part above found-now₀ opened-now₀ i₀ found-now opened-now i = count - i
+μ-loop store look slot level code found opened count part above pixels₀ blocks₀ i₀ pixels blocks i = count - i
 
 module _ (t : ℕ) where
   -- the slot was opened before the loop
@@ -108,7 +108,7 @@ module _ (t : ℕ) where
   -- one element more was counted, with this answer
   one-on : (c : count-block-lts.After-element-at (called t) (block-at t) count-block.Post Inv-loop μ-loop) (r : Counted)
       → let a = c .before .before .before .before .before .before .before .before .before .before .args in
-      ElementAnswered (a .look) (now (a .store)) (c .element-at .result) (a .level) (c .before .before .loop .found-now) (c .before .before .loop .opened-now) r
+      ElementAnswered (a .look) (now (a .store)) (c .element-at .result) (a .level) (c .before .before .loop .pixels) (c .before .before .loop .blocks) r
       → CountedTo (a .look) (now (a .store)) (a .slot) (a .level) (a .code) (a .found) (a .opened) (c .before .before .loop .i + 1) r
   one-on c r answered =
       let p = c .before .before .before in
@@ -146,10 +146,10 @@ module _ (t : ℕ) where
   -- where the ways of one turn meet, with the numbers that its element left
   turned : (c : count-block-lts.At-match2-came (called t) (block-at t) count-block.Post Inv-loop μ-loop) (n m : ℕ)
       → let a = c .before .before .before .before .before .before .before .before .before .before .before .args in let l = c .before .before .before .loop in
-      c .match2 .found-now ≡ n → c .match2 .opened-now ≡ m → (n ≤ l .found-now + 1) ⊎ (n ≤ a .look .most) → m ≤ a .look .layout .slots
-      → ElementAnswered (a .look) (now (a .store)) (c .before .element-at .result) (a .level) (l .found-now) (l .opened-now) (Seen n m)
-      → ((l .i + 1 ≤ c .before .before .before .before .before .before .before .count .given .0 .0) × (c .match2 .found-now + 100 * a .level ≤ a .look .most + 1600 + (l .i + 1)) × (c .match2 .opened-now ≤ a .look .layout .slots))
-      × CountedTo (a .look) (now (a .store)) (a .slot) (a .level) (a .code) (a .found) (a .opened) (l .i + 1) (Seen (c .match2 .found-now) (c .match2 .opened-now))
+      c .match2 .pixels ≡ n → c .match2 .blocks ≡ m → (n ≤ l .pixels + 1) ⊎ (n ≤ a .look .most) → m ≤ a .look .layout .slots
+      → ElementAnswered (a .look) (now (a .store)) (c .before .element-at .result) (a .level) (l .pixels) (l .blocks) (Seen n m)
+      → ((l .i + 1 ≤ c .before .before .before .before .before .before .before .count .given .0 .0) × (c .match2 .pixels + 100 * a .level ≤ a .look .most + 1600 + (l .i + 1)) × (c .match2 .blocks ≤ a .look .layout .slots))
+      × CountedTo (a .look) (now (a .store)) (a .slot) (a .level) (a .code) (a .found) (a .opened) (l .i + 1) (Seen (c .match2 .pixels) (c .match2 .blocks))
   turned c n m e f more few answered =
       let inv = c .before .before .before .loop .inv .0 .1 in
       let low = c .before .before .before .before .before .before .before .before .before .before .before .pre .1 .level-to in (
