@@ -18,6 +18,12 @@ sub-side c =
     let a = c .before .before .before in
     omega (arith, side-of-level (a .args .sizes .order) (sizes-valid (a .pre .0) (a .pre .1) .panel .order-to), pow-pos (a .args .sizes .order))
 
+count-requires : tie.Need-count-requires
+count-requires c κs =
+    let a = c .before .before .before in
+    let side = side-of-level (a .args .sizes .order) (sizes-valid (a .pre .0) (a .pre .1) .panel .order-to) in
+    (a .pre .0, a .pre .1, record { x0-below = omega arith; y0-below = omega arith; x1-below = omega (arith, side); y1-below = omega (arith, side) })
+
 returns : tie.Need-returns
 returns c =
     let a = c .before .before .before .before .before .before in
@@ -81,7 +87,7 @@ save-spec =
     (tie.spec
     shl-side
     sub-side
-    (λ c κs. search needs)
+    count-requires
     (λ c. search needs)
     (λ c. search needs)
     returns
