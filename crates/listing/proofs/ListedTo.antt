@@ -3,7 +3,7 @@ use Prim.Native.Nat.{ℕ, suc, _+_, _≤_, _<_}
 use native.Mathlib.Omega.{arith}
 use native.Mathlib.Nat.{add-zero}
 use native.Mathlib.Numerals.{add-one}
-use mathlib.Core.Path.{_≡_, refl, subst, sym, _∙_}
+use mathlib.Core.Path.{_≡_, refl, ap₂, subst, sym, _∙_}
 use mathlib.Core.List.{List}
 use lib.ListN.{length}
 use Rattle.pktree.specs.Elements.{Forest, _⧺_}
@@ -19,11 +19,13 @@ use Rattle.store.specs.declared.elements.Element.{Element}
 use Rattle.query.specs.declared.count.Look.{Look}
 use Rattle.query.specs.declared.count.Counted.{Counted}
 use Rattle.query.specs.declared.count.Counted.the-variants.{Seen, Damaged}
-use Rattle.query.specs.Corners.{windowOf}
-use Rattle.query.specs.Counting.{foundIn, Ordered, CanCount, RoomFor}
-use Rattle.listing.specs.Listing.{Wrote, ListMeets, ListElementRight, ListElementMeets}
+use Rattle.store.specs.declared.opening.Opening.the-variants as opening
+use Rattle.query.specs.Corners.{windowBetween, Ordered}
+use Rattle.query.specs.Counting.{foundIn, CanCount, SlotOpening, RoomFor, SeenAtMost}
+use Rattle.listing.specs.Listing.{Wrote, ListMeets}
+use Rattle.listing.proofs.ListedElement.{ListElementRight, ElementListed}
 use Rattle.query.proofs.NextElement.{OneElement, is-pixel, is-block, Passed, none-passed, one-more-passed, all-passed}
-use Rattle.query.proofs.OpenedSlot.{SlotOpened, SlotShut, not-both, view-opens}
+use Rattle.query.proofs.OpenedSlot.{SlotOpened, not-both, view-opens}
 use Rattle.query.proofs.WindowParts.{found-join}
 use Rattle.query.proofs.SeenParts.{seen-join, found-between, room-between}
 use Rattle.listing.proofs.WrittenAt.{written-none, written-join}
@@ -32,7 +34,7 @@ use Rattle.listing.proofs.WrittenAt.{written-none, written-join}
 wrote-join : (look : Look) (f g : Forest) (at opened n m : ℕ) (before mid after : List ℕ) (r : Counted) → at ≤ length before
     → Wrote look f at opened before mid (Seen n m) → Wrote look g n m mid after r → Wrote look (f ⧺ g) at opened before after r
 wrote-join look f g at opened n m before mid after r fits wf wg =
-    let w : Window = windowOf (look .window) in
+    let w : Window = windowBetween (look .corners) in
     let p : n ≡ at + foundIn w f = cc (wf .answer) in
     record {
       answer = wg .answer ∙ seen-join w n m at opened f g (wf .answer);
@@ -41,24 +43,24 @@ wrote-join look f g at opened n m before mid after r fits wf wg =
 
 -- the answer for the block itself and its first i elements, with what is in the output then
 pub record ListedTo (look : Look) (words : List ℕ) (slot level code at opened i : ℕ) (before after : List ℕ) (r : Counted) : Type 0 where
-  pub passed : (k : ℕ) (es : Placed) → BlockView k (look .layout .width) (look .layout .slots) words slot level code es → Ordered (windowOf (look .window))
-      → RoomFor look at (suc opened) (forestOf es) → at + foundIn (windowOf (look .window)) (forestOf es) ≤ length before
+  pub passed : (k : ℕ) (es : Placed) → BlockView k (look .layout .width) (look .layout .slots) words slot level code es → Ordered (windowBetween (look .corners))
+      → RoomFor look at (suc opened) (forestOf es) → at + foundIn (windowBetween (look .corners)) (forestOf es) ≤ length before
       → Passed (λ f. Wrote look f at (suc opened) before after r) es i
 
 -- an element's codes stand behind those of the elements before it
 one-more : (look : Look) (k : ℕ) (words : List ℕ) (level code : ℕ) (element : Element) (n m at opened : ℕ) (before mid after : List ℕ) (r : Counted) (es f g h : Placed)
-    → Ordered (windowOf (look .window)) → RoomFor look at opened (forestOf es) → at + foundIn (windowOf (look .window)) (forestOf es) ≤ length before
+    → Ordered (windowBetween (look .corners)) → RoomFor look at opened (forestOf es) → at + foundIn (windowBetween (look .corners)) (forestOf es) ≤ length before
     → length mid ≡ length before → ListElementRight look words element level n m mid after r
     → es ≡ (f ⧻ g) ⧻ h → OneElement k (look .layout .width) (look .layout .slots) words level code element g
     → Wrote look (forestOf f) at opened before mid (Seen n m) → Wrote look (forestOf (f ⧻ g)) at opened before after r
 one-more look k words level code element n m at opened before mid after r es f g h ordered room fits long right e is wf =
     let rg : RoomFor look n m (forestOf g) = room-between look n m at opened es f g h e (wf .answer) room in
-    let fg = found-between (windowOf (look .window)) n m at opened (length before) es f g h e (wf .answer) fits in
+    let fg = found-between (windowBetween (look .corners)) n m at opened (length before) es f g h e (wf .answer) fits in
     rw (forest-join f g) (wrote-join look (forestOf f) (forestOf g) at opened n m before mid after r (omega arith) wf (answer g is rg (omega arith)))
   where
     answer : (g : Placed) → OneElement k (look .layout .width) (look .layout .slots) words level code element g
-        → RoomFor look n m (forestOf g) → n + foundIn (windowOf (look .window)) (forestOf g) ≤ length mid → Wrote look (forestOf g) n m mid after r
-    answer g (is-pixel c p) = subst (λ (x : Element). ListElementRight look words x level n m mid after r) p right
+        → RoomFor look n m (forestOf g) → n + foundIn (windowBetween (look .corners)) (forestOf g) ≤ length mid → Wrote look (forestOf g) n m mid after r
+    answer g (is-pixel c p) = subst (λ (x : Element). ListElementRight look words x level n m mid after r) p right ordered
     answer g (is-block s i c fs p child) = subst (λ (x : Element). ListElementRight look words x level n m mid after r) p right k code fs child ordered
 
 module _ {look : Look} {words : List ℕ} {slot level code at opened : ℕ} {before : List ℕ} where
@@ -69,34 +71,30 @@ module _ {look : Look} {words : List ℕ} {slot level code at opened : ℕ} {bef
             none-passed _ es (record { answer = rw (add-one opened, add-zero at, add-zero (suc opened)); output = sym (written-none before at) });
       }
 
-  pub listed-one : {count i n m : ℕ} {element : Element} {mid after : List ℕ} {o r : Counted} → SlotOpened (look .layout .width) words slot level code count → i < count
+  pub listed-one : {count i n m : ℕ} {element : Element} {mid after : List ℕ} {r : Counted} → SlotOpened (look .layout .width) words slot level code count → i < count
       → ListedTo look words slot level code at opened i before mid (Seen n m) → length mid ≡ length before
-      → element ≡ elementAt (slotPart (look .layout .width) words slot) i → o ≡ r
-      → ListElementMeets look words element level n m mid after o → ListedTo look words slot level code at opened (i + 1) before after r
-  listed-one {n = n} {m = m} {element = element} {mid = mid} {after = after} {r = r} opening below to long is answers meets =
-      let right : ListElementRight look words element level n m mid after r = rw answers at (meets .right) in
+      → element ≡ elementAt (slotPart (look .layout .width) words slot) i
+      → ElementListed look words element level n m mid after r → ListedTo look words slot level code at opened (i + 1) before after r
+  listed-one {n = n} {m = m} {element = element} {mid = mid} {after = after} {r = r} opening below to long is listed =
       record {
         passed = λ k es view ordered room fits.
             one-more-passed k (look .layout .width) (look .layout .slots) words slot level code es _ _ _ view
             (omega (arith, opening .header .count-is, view .says .count-is))
             (λ f g h e one wf.
-            one-more look k words level code element n m at (suc opened) before mid after r es f g h ordered room fits long right e (rw is one) wf)
+            one-more look k words level code element n m at (suc opened) before mid after r es f g h ordered room fits long (listed .right) e (rw is one) wf)
             (to .passed k es view ordered room fits);
       }
 
   -- the ways out of the loop function
-  pub no-room : look .layout .slots ≤ opened → ListMeets look words slot level code at opened before before Damaged
-  no-room full =
-      record { bounds = tt; long = refl; right = λ k es view ordered room fits. absurd (omega (arith, room .room-opened)); closed = λ shut. refl }
-
-  pub not-opened : CanCount look words slot level at opened → SlotShut (look .layout .width) words slot level code
+  pub not-opened : CanCount look words level at opened → SlotOpening (look .layout) words slot level code opened opening.Damaged
       → ListMeets look words slot level code at opened before before Damaged
-  not-opened can s =
+  not-opened can shut =
       record {
         bounds = tt;
         long = refl;
-        right = λ k es view ordered room fits. absurd (view-opens {layout = look .layout} (can .fits) view s);
-        closed = λ shut. refl;
+        right = λ k es view ordered room fits.
+            absurd (view-opens {layout = look .layout} (can .fits) view (record { shut = shut (view .slot-below) (omega (arith, room .room-opened)) }));
+        closed = λ cannot. refl;
       }
 
   pub element-damaged : {i : ℕ} {after : List ℕ} → length after ≡ length before → ListedTo look words slot level code at opened i before after Damaged
@@ -109,14 +107,30 @@ module _ {look : Look} {words : List ℕ} {slot level code at opened : ℕ} {bef
         closed = λ shut. refl;
       }
 
-  pub all-listed : {count i n m : ℕ} {after : List ℕ} → SlotOpened (look .layout .width) words slot level code count → count ≤ i
-      → n ≤ look .most → m ≤ look .layout .slots → length after ≡ length before
-      → ListedTo look words slot level code at opened i before after (Seen n m) → ListMeets look words slot level code at opened before after (Seen n m)
-  all-listed o end p q long to =
-      record {
-        bounds = (p, q);
-        long = long;
-        right = λ k es view ordered room fits.
-            all-passed _ es _ (omega (arith, o .header .count-is, view .says .count-is)) (to .passed k es view ordered room fits);
-        closed = λ shut. absurd (not-both o shut);
-      }
+  module _ {count i n m : ℕ} {after : List ℕ} (o : SlotOpened (look .layout .width) words slot level code count) (end : count ≤ i)
+      (to : ListedTo look words slot level code at opened i before after (Seen n m)) (long : length after ≡ length before) where
+    all-wrote : (k : ℕ) (es : Placed) → BlockView k (look .layout .width) (look .layout .slots) words slot level code es → Ordered (windowBetween (look .corners))
+        → RoomFor look at (suc opened) (forestOf es) → at + foundIn (windowBetween (look .corners)) (forestOf es) ≤ length before
+        → Wrote look (forestOf es) at (suc opened) before after (Seen n m)
+    all-wrote k es view ordered room fits = all-passed _ es _ (omega (arith, o .header .count-is, view .says .count-is)) (to .passed k es view ordered room fits)
+
+    pub all-listed : (r : Counted) → m ≤ look .layout .slots → SeenAtMost (look .most) n m r → ListMeets look words slot level code at opened before after r
+    all-listed (Seen p q) few at-most =
+        record {
+          bounds = omega (arith, at-most);
+          long = long;
+          right = λ k es view ordered room fits.
+              let w = all-wrote k es view ordered room fits in
+              record { answer = ap₂ Seen (at-most .0) (at-most .1) ∙ w .answer; output = w .output };
+          closed = λ shut. absurd (not-both o shut);
+        }
+    all-listed Damaged few over =
+        record {
+          bounds = tt;
+          long = long;
+          right = λ k es view ordered room fits.
+              let e = all-wrote k es view ordered room fits .answer in
+              let p : n ≡ at + foundIn (windowBetween (look .corners)) (forestOf es) = cc in
+              absurd (omega (arith, room .room-found));
+          closed = λ shut. refl;
+        }

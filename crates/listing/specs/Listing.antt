@@ -3,7 +3,7 @@ use Prim.Native.Nat.{ℕ, suc, _+_, _≤_, _<_}
 use mathlib.Core.Path.{_≡_}
 use mathlib.Core.List.{List, _++_}
 use lib.ListN.{length, getD, take, drop}
-use Rattle.pktree.specs.Elements.{Forest, empty, pixel, block}
+use Rattle.pktree.specs.Elements.{Forest, empty, pixel}
 use Rattle.pktree.specs.PixelSet.{member}
 use Rattle.pktree.specs.Tree.{pixels, tree as setTree}
 use Rattle.pktree.specs.Window as tree
@@ -12,16 +12,15 @@ use Rattle.store.specs.Sizes.{panelOf, slotWidth, sizesOf}
 use Rattle.store.specs.Sound.{Holds}
 use Rattle.store.specs.Opening.{CannotOpen}
 use Rattle.store.specs.Placed.{Placed, forestOf}
-use Rattle.store.proofs.BlockView.{BlockView, ChildView}
-use Rattle.store.specs.declared.elements.Element.{Element}
-use Rattle.store.specs.declared.elements.Element.the-variants.{Pixel, Block}
+use Rattle.store.proofs.BlockView.{BlockView}
 use Rattle.query.specs.declared.count.Look.{Look}
 use Rattle.query.specs.declared.count.Counted.{Counted}
 use Rattle.query.specs.declared.count.Counted.the-variants.{Damaged}
 use Rattle.listing.specs.declared.Listed.{Listed}
 use Rattle.listing.specs.declared.Listed.the-variants.{Written, Short, Broken}
-use Rattle.query.specs.Corners.{windowOf}
-use Rattle.query.specs.Counting.{foundIn, Ordered, BeginsOnPanel, CountBounds, WithinSizes, seen, RoomFor}
+use Rattle.query.specs.declared.window.Corners.{Corners}
+use Rattle.query.specs.Corners.{windowBetween, Ordered}
+use Rattle.query.specs.Counting.{foundIn, BeginsOnPanel, CountBounds, WithinSizes, seen, RoomFor}
 
 -- these codes written from index `at` on, the rest unchanged
 abbrev pub writtenAt : List ℕ → ℕ → List ℕ → List ℕ
@@ -29,30 +28,23 @@ writtenAt output at codes = take at output ++ (codes ++ drop (at + length codes)
 
 -- the answer is count's, and the codes found among these elements stand in the output from index `at` on
 pub record Wrote (look : Look) (f : Forest) (at opened : ℕ) (before after : List ℕ) (r : Counted) : Type 0 where
-  pub answer : r ≡ seen (windowOf (look .window)) at opened f
-  pub output : after ≡ writtenAt before at (found (windowOf (look .window)) (pixels f))
+  pub answer : r ≡ seen (windowBetween (look .corners)) at opened f
+  pub output : after ≡ writtenAt before at (found (windowBetween (look .corners)) (pixels f))
 
 pub record ListMeets (look : Look) (words : List ℕ) (slot level code at opened : ℕ) (before after : List ℕ) (r : Counted) : Type 0 where
   pub bounds : CountBounds look r
   pub long : length after ≡ length before
-  pub right : (k : ℕ) (es : Placed) → BlockView k (look .layout .width) (look .layout .slots) words slot level code es → Ordered (windowOf (look .window))
-      → RoomFor look at (suc opened) (forestOf es) → at + foundIn (windowOf (look .window)) (forestOf es) ≤ length before
+  pub right : (k : ℕ) (es : Placed) → BlockView k (look .layout .width) (look .layout .slots) words slot level code es → Ordered (windowBetween (look .corners))
+      → RoomFor look at (suc opened) (forestOf es) → at + foundIn (windowBetween (look .corners)) (forestOf es) ≤ length before
       → Wrote look (forestOf es) at (suc opened) before after r
   pub closed : CannotOpen (look .layout .width) words slot level code → r ≡ Damaged
 
-abbrev pub ListElementRight : Look → List ℕ → Element → ℕ → ℕ → ℕ → List ℕ → List ℕ → Counted → Type 0
-ListElementRight look words (Pixel c) level at opened before after r =
-    RoomFor look at opened (pixel c empty) → at + foundIn (windowOf (look .window)) (pixel c empty) ≤ length before
-    → Wrote look (pixel c empty) at opened before after r
-ListElementRight look words (Block s i c) level at opened before after r =
-    (k code : ℕ) (fs : Placed) → ChildView k (look .layout .width) (look .layout .slots) words level code s i c fs → Ordered (windowOf (look .window))
-    → RoomFor look at opened (block i c (forestOf fs) empty) → at + foundIn (windowOf (look .window)) (block i c (forestOf fs) empty) ≤ length before
-    → Wrote look (block i c (forestOf fs) empty) at opened before after r
-
-pub record ListElementMeets (look : Look) (words : List ℕ) (element : Element) (level at opened : ℕ) (before after : List ℕ) (r : Counted) : Type 0 where
-  pub bounds : CountBounds look r
+-- a pixel that the window has is added to those found, and written where there is room
+pub record PixelListed (corners : Corners) (code at : ℕ) (before after : List ℕ) (r : ℕ) : Type 0 where
+  pub few : r ≤ at + 1
   pub long : length after ≡ length before
-  pub right : ListElementRight look words element level at opened before after r
+  pub right : Ordered (windowBetween corners) → at + foundIn (windowBetween corners) (pixel code empty) ≤ length before
+      → (r ≡ at + foundIn (windowBetween corners) (pixel code empty)) × (after ≡ writtenAt before at (found (windowBetween corners) (pixels (pixel code empty))))
 
 -- list's answer, with what it leaves in the output
 abbrev pub ListCase : List ℕ → tree.Window → List ℕ → List ℕ → Forest → List ℕ → Listed → Type 0

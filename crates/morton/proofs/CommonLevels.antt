@@ -8,7 +8,7 @@ use lib.Bits.{bitXor, xor-shr, xor-self, xor-lt, xor-add-and, and-le-l, and-le-r
 use lib.Count.{leadingZeros, leading-length}
 use Rattle.morton.specs.CommonLevel.{CommonLevel}
 
-four-pow : (i : ℕ) → 4 ^ i ≡ 2 ^ (i + i)
+pub four-pow : (i : ℕ) → 4 ^ i ≡ 2 ^ (i + i)
 four-pow zero = refl
 four-pow (suc i) =
     let e : 2 ^ (suc i + suc i) ≡ 2 ^ suc (suc (i + i)) = ap (λ (n : ℕ). 2 ^ n) (omega arith) in

@@ -2,3 +2,4 @@ pub mod Codes
 pub mod Blocks
 mod Fields
 pub mod CommonLevels
+pub mod Order

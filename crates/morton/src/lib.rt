@@ -1,8 +1,10 @@
 ghost use mathlib.Core.Path.{_≡_};
-ghost use Prim.Native.Nat.{_<_};
+ghost use Prim.Native.Nat.{_*_, _/_, _^_, _≤_, _<_};
 ghost use Rattle.morton.specs.Code.{spreadBits, gatherBits, codeOf, xOf, yOf};
+ghost use Rattle.morton.specs.Between.{Between};
 ghost use Rattle.morton.specs.Coordinate.{Coordinate};
 ghost use Rattle.morton.specs.CommonLevel.{CommonLevel};
+use std::num::wrapping_sub_u32;
 
 // Each bit of a coordinate moves to twice its place: four halvings of the fields, as 01's last section asks.
 pub fn spread(x: u32) -> u32
@@ -43,6 +45,35 @@ pub fn y_of(code: u32) -> u32
     ensures { λ r. ⌜ Coordinate (yOf code) r ⌝ }
 {
     gather(code >> 1)
+}
+
+// Whether n lies from first to last, both included, by one comparison: what is before first wraps past last.
+pub fn is_between(first: u32, last: u32, n: u32) -> bool
+    ensures { λ r. ⌜ Between first last n r ⌝ }
+{
+    wrapping_sub_u32(n, first) <= wrapping_sub_u32(last, first)
+}
+
+// Coordinates are compared in their codes: the bits of x at even places ascend as x does.
+pub fn x_between(first: u32, last: u32, code: u32) -> bool
+    ensures { λ r. ⌜ Between (xOf first) (xOf last) (xOf code) r ⌝ }
+{
+    is_between(first & 0x5555_5555, last & 0x5555_5555, code & 0x5555_5555)
+}
+
+pub fn y_between(first: u32, last: u32, code: u32) -> bool
+    ensures { λ r. ⌜ Between (yOf first) (yOf last) (yOf code) r ⌝ }
+{
+    is_between(first & 0xaaaa_aaaa, last & 0xaaaa_aaaa, code & 0xaaaa_aaaa)
+}
+
+// The code of the block of this level around a code: its low bits cleared.
+pub fn block_around(code: u32, level: u32) -> u32
+    requires { ⌜ level ≤ 15 ⌝ }
+    ensures { λ r. ⌜ r ≡ code / 4 ^ level * 4 ^ level ⌝ }
+{
+    let bits = 2 * level;
+    code >> bits << bits
 }
 
 // 01: the highest bit in which two codes differ gives the smallest block that holds both.

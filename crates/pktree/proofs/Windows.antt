@@ -119,13 +119,13 @@ on-grid n i g z h e =
     )
 
 -- the lowest corner of an aligned block is on the grid of the block's side, and the block ends at 2 ^ 16 or before
-record Corner (level code : ℕ) : Type 0 where
-  grid-x : xOf code / 2 ^ level * 2 ^ level ≡ xOf code
-  grid-y : yOf code / 2 ^ level * 2 ^ level ≡ yOf code
-  room-x : xOf code + 2 ^ level ≤ 65536
-  room-y : yOf code + 2 ^ level ≤ 65536
+pub record Corner (level code : ℕ) : Type 0 where
+  pub grid-x : xOf code / 2 ^ level * 2 ^ level ≡ xOf code
+  pub grid-y : yOf code / 2 ^ level * 2 ^ level ≡ yOf code
+  pub room-x : xOf code + 2 ^ level ≤ 65536
+  pub room-y : yOf code + 2 ^ level ≤ 65536
 
-corner-of-aligned : (level code : ℕ) → level ≤ 16 → Aligned level code → Corner level code
+pub corner-of-aligned : (level code : ℕ) → level ≤ 16 → Aligned level code → Corner level code
 corner-of-aligned level code h a =
     let q : ℕ = code / 4 ^ level in
     let e = coordinates-of-multiple 16 level q in

@@ -1,51 +1,53 @@
 -- The answers that count gives for one element.
-use Prim.Native.Nat.{ℕ, _+_, _≤_, _<_}
+use Prim.Native.Nat.{ℕ, _≤_}
 use native.Mathlib.Omega.{arith}
 use native.Mathlib.Nat.{add-zero}
-use mathlib.Core.Path.{_≡_, ap, subst, sym, _∙_}
-use mathlib.Core.Bool.{true, false}
+use mathlib.Core.Path.{_≡_, ap₂, subst, sym, _∙_}
+use mathlib.Core.Bool.{Bool, true, false}
 use mathlib.Core.List.{List}
-use lib.ListN.{length}
-use Rattle.pktree.specs.Window.{inWindow}
+use Rattle.pktree.specs.Elements.{empty, pixel, block}
+use Rattle.store.specs.Placed.{Placed, forestOf}
+use Rattle.store.proofs.BlockView.{ChildView}
 use Rattle.store.specs.declared.elements.Element.{Element}
 use Rattle.store.specs.declared.elements.Element.the-variants.{Pixel, Block}
 use Rattle.query.specs.declared.count.Look.{Look}
 use Rattle.query.specs.declared.count.Counted.{Counted}
 use Rattle.query.specs.declared.count.Counted.the-variants.{Seen, Damaged}
-use Rattle.query.specs.Corners.{windowOf, cornersMeet}
-use Rattle.query.specs.Counting.{CanCount, CountBounds, CountMeets, ElementRight, CountElementMeets}
-use Rattle.query.proofs.SeenParts.{seen-nothing, seen-opened, room-opened, pixel-outside, pixel-inside, child-skipped, child-opened}
+use Rattle.query.specs.Corners.{windowBetween, Ordered, BlockTested}
+use Rattle.query.specs.Counting.{seen, RoomFor, PixelCounted, CountMeets}
+use Rattle.query.proofs.SeenParts.{seen-nothing, seen-opened, room-opened, child-skipped, child-opened}
+
+-- the answer is that of the element, on a sound store
+abbrev pub ElementRight : Look → List ℕ → Element → ℕ → ℕ → ℕ → Counted → Type 0
+ElementRight look words (Pixel c) level found opened r =
+    Ordered (windowBetween (look .corners)) → RoomFor look found opened (pixel c empty) → r ≡ seen (windowBetween (look .corners)) found opened (pixel c empty)
+ElementRight look words (Block s i c) level found opened r =
+    (k code : ℕ) (fs : Placed) → ChildView k (look .layout .width) (look .layout .slots) words level code s i c fs → Ordered (windowBetween (look .corners))
+    → RoomFor look found opened (block i c (forestOf fs) empty) → r ≡ seen (windowBetween (look .corners)) found opened (block i c (forestOf fs) empty)
+
+pub record ElementAnswered (look : Look) (words : List ℕ) (element : Element) (level found opened : ℕ) (r : Counted) : Type 0 where
+  pub right : ElementRight look words element level found opened r
 
 module _ {look : Look} {words : List ℕ} {element : Element} {level n m : ℕ} where
-  meets-as : {e : Element} {r : Counted} → element ≡ e → CountBounds look r → ElementRight look words e level n m r → CountElementMeets look words element level n m r
-  meets-as {r = r} e bounds right = record { bounds = bounds; right = subst (λ (x : Element). ElementRight look words x level n m r) (sym e) right }
+  answered-as : {e : Element} {r : Counted} → element ≡ e → ElementRight look words e level n m r → ElementAnswered look words element level n m r
+  answered-as {r = r} e right = record { right = subst (λ (x : Element). ElementRight look words x level n m r) (sym e) right }
 
-  pub pixel-not-counted : {c : ℕ} → element ≡ Pixel c → CanCount look words 0 level n m → inWindow (windowOf (look .window)) c ≡ false
-      → CountElementMeets look words element level n m (Seen n m)
-  pixel-not-counted e can out =
-      meets-as e (can .found-to, can .opened-to) (λ room. sym (seen-nothing n m (pixel-outside (windowOf (look .window)) _ out)))
+  pub pixel-counted : {c p : ℕ} → element ≡ Pixel c → PixelCounted (look .corners) c n p → ElementAnswered look words element level n m (Seen p m)
+  pixel-counted e counted = answered-as e (λ ordered room. ap₂ Seen (counted .right ordered) (sym (add-zero m)))
 
-  pub pixel-counted : {c : ℕ} → element ≡ Pixel c → CanCount look words 0 level n m → n < look .most → inWindow (windowOf (look .window)) c ≡ true
-      → CountElementMeets look words element level n m (Seen (n + 1) m)
-  pixel-counted e can room inside = meets-as e (omega arith, can .opened-to) (λ r. rw (inside, add-zero))
+  pub block-too-high : {s i c : ℕ} → element ≡ Block s i c → level ≤ i → ElementAnswered look words element level n m Damaged
+  block-too-high e high = answered-as e (λ k code fs child ordered room. absurd (omega (arith, child .below)))
 
-  pub pixel-too-many : {c : ℕ} → element ≡ Pixel c → look .most ≤ n → inWindow (windowOf (look .window)) c ≡ true → CountElementMeets look words element level n m Damaged
-  pixel-too-many e full inside = meets-as e tt (λ room. absurd (omega (arith, room .room-found, ap length (pixel-inside (windowOf (look .window)) _ inside))))
+  module _ {s i c : ℕ} {b : Bool} (e : element ≡ Block s i c) (tested : BlockTested (look .corners) i c b) where
+    pub block-skipped : b ≡ false → ElementAnswered look words element level n m (Seen n m)
+    block-skipped apart =
+        answered-as e (λ k code fs child ordered room.
+        let outside = sym (tested .says (child .view .aligned) ordered) ∙ apart in
+        sym (seen-nothing n m (child-skipped (windowBetween (look .corners)) child ordered outside)))
 
-  pub block-too-high : {s i c : ℕ} → element ≡ Block s i c → level ≤ i → CountElementMeets look words element level n m Damaged
-  block-too-high e high = meets-as e tt (λ k code fs child ordered room. absurd (omega (arith, child .below)))
-
-  pub block-past-slots : {s i c : ℕ} → element ≡ Block s i c → look .layout .slots ≤ s → CountElementMeets look words element level n m Damaged
-  block-past-slots e past = meets-as e tt (λ k code fs child ordered room. absurd (omega (arith, child .view .slot-below)))
-
-  pub block-skipped : {s i c : ℕ} → element ≡ Block s i c → CanCount look words 0 level n m → cornersMeet (windowOf (look .window)) i c ≡ false
-      → CountElementMeets look words element level n m (Seen n m)
-  block-skipped e can apart =
-      meets-as e (can .found-to, can .opened-to) (λ k code fs child ordered room. sym (seen-nothing n m (child-skipped (windowOf (look .window)) child ordered apart)))
-
-  pub block-counted : {s i c : ℕ} {r : Counted} → element ≡ Block s i c → cornersMeet (windowOf (look .window)) i c ≡ true → CountMeets look words s i c n m r
-      → CountElementMeets look words element level n m r
-  block-counted e shares answer =
-      meets-as e (answer .bounds) (λ k code fs child ordered room.
-      let one = child-opened (windowOf (look .window)) child ordered shares in
-      answer .right k fs (child .view) ordered (room-opened one room) ∙ sym (seen-opened n m one))
+    pub block-counted : {r : Counted} → b ≡ true → CountMeets look words s i c n m r → ElementAnswered look words element level n m r
+    block-counted shares answer =
+        answered-as e (λ k code fs child ordered room.
+        let meets = sym (tested .says (child .view .aligned) ordered) ∙ shares in
+        let one = child-opened (windowBetween (look .corners)) child ordered meets in
+        answer .right k fs (child .view) ordered (room-opened one room) ∙ sym (seen-opened n m one))

@@ -10,37 +10,36 @@ use Rattle.store.specs.Placed.{Placed, forestOf}
 use Rattle.store.specs.declared.sizes.Sizes.{Sizes}
 use Rattle.store.specs.declared.sizes.Layout.{Layout}
 use Rattle.query.specs.declared.count.Look.{Look}
-use Rattle.query.specs.declared.window.Window.{Window}
-use Rattle.query.specs.Corners.{windowOf}
+use Rattle.query.specs.declared.window.Corners.{Corners}
+use Rattle.query.specs.Corners.{windowBetween}
 use Rattle.query.specs.Counting.{CanCount, RoomFor}
 use Rattle.query.proofs.WholeTree.{WholeTree}
 
 -- as the code makes it
-abbrev pub lookOf : Layout → Sizes → Window → Look
-lookOf layout sizes window = record { layout = layout; most = sizes .most; window = window }
+abbrev pub lookOf : Layout → Sizes → Corners → Look
+lookOf layout sizes corners = record { layout = layout; most = sizes .most; corners = corners }
 
-abbrev pub rootLook : List ℕ → Window → Look
-rootLook words window = lookOf (layoutOf (sizesOf words)) (sizesOf words) window
+abbrev pub rootLook : List ℕ → Corners → Look
+rootLook words corners = lookOf (layoutOf (sizesOf words)) (sizesOf words) corners
 
 module _ {words : List ℕ} {sizes : Sizes} (usable : UsableStore words) (said : sizes ≡ sizesOf words) where
   pub sizes-valid : ValidSizes sizes
   sizes-valid = rw said (usable .valid)
 
-  pub can-start : {layout : Layout} {window : Window} → LaidOut sizes layout → CanCount (lookOf layout sizes window) words 0 (sizes .order) 0 0
+  pub can-start : {layout : Layout} {corners : Corners} → LaidOut sizes layout → CanCount (lookOf layout sizes corners) words (sizes .order) 0 0
   can-start laid =
       record {
         fits = record { within = laid .within; lies = rw (laid .is, said) (usable .enough) };
-        slot-below = laid .within .slots-from;
         level-to = sizes-valid .panel .order-to;
         most-to = sizes-valid .most-to;
-        found-to = omega arith;
+        found-to = omega (arith, sizes-valid .panel .order-to);
         opened-to = omega arith;
       }
 
 -- what is learnt of the code's look is learnt of the words' own
-pub of-root-look : {sizes : Sizes} {layout : Layout} (words : List ℕ) (window : Window) (P : Look → ℕ → Type 0) → sizes ≡ sizesOf words → LaidOut sizes layout
-    → P (lookOf layout sizes window) (sizes .order) → P (rootLook words window) (getD words 1 0)
-of-root-look words window P said laid = subst₂ (λ (l : Layout) (s : Sizes). P (lookOf l s window) (s .order)) (laid .is ∙ ap layoutOf said) said
+pub of-root-look : {sizes : Sizes} {layout : Layout} (words : List ℕ) (corners : Corners) (P : Look → ℕ → Type 0) → sizes ≡ sizesOf words → LaidOut sizes layout
+    → P (lookOf layout sizes corners) (sizes .order) → P (rootLook words corners) (getD words 1 0)
+of-root-look words corners P said laid = subst₂ (λ (l : Layout) (s : Sizes). P (lookOf l s corners) (s .order)) (laid .is ∙ ap layoutOf said) said
 
-pub room-at-root : {words set : List ℕ} {window : Window} {es : Placed} → WholeTree words (windowOf window) set es → RoomFor (rootLook words window) 0 (suc 0) (forestOf es)
+pub room-at-root : {words set : List ℕ} {corners : Corners} {es : Placed} → WholeTree words (windowBetween corners) set es → RoomFor (rootLook words corners) 0 (suc 0) (forestOf es)
 room-at-root t = record { room-found = omega (arith, t .few-found); room-opened = omega (arith, t .few-opened) }

@@ -14,8 +14,8 @@ use Rattle.store.proofs.PlacedJoin.{forest-join}
 use Rattle.store.proofs.BlockView.{ChildView}
 use Rattle.query.specs.declared.count.Look.{Look}
 use Rattle.query.specs.declared.count.Counted.the-variants.{Seen}
-use Rattle.query.specs.Corners.{windowOf, cornersMeet}
-use Rattle.query.specs.Counting.{foundIn, Ordered, seen, RoomFor}
+use Rattle.query.specs.Corners.{windowBetween, cornersMeet, Ordered}
+use Rattle.query.specs.Counting.{foundIn, seen, RoomFor}
 use Rattle.query.proofs.WindowTests.{corners-decide}
 use Rattle.query.proofs.WindowParts.{found-in-join, opened-join, NothingSeen, OneOpened, block-apart, block-opened}
 
@@ -26,7 +26,7 @@ seen-nothing n m h = rw (h .none-found, h .none-opened, add-zero, add-zero)
 pub seen-opened : {window : Window} {f es : Forest} (n m : ℕ) → OneOpened window f es → seen window n m f ≡ seen window n (suc m) es
 seen-opened n m h = rw (h .same-found, h .one-opened, add-suc, suc-add)
 
-pub room-opened : {look : Look} {f es : Forest} {n m : ℕ} → OneOpened (windowOf (look .window)) f es → RoomFor look n m f → RoomFor look n (suc m) es
+pub room-opened : {look : Look} {f es : Forest} {n m : ℕ} → OneOpened (windowBetween (look .corners)) f es → RoomFor look n m f → RoomFor look n (suc m) es
 room-opened h r =
     record { room-found = omega (arith, r .room-found, ap length (h .same-found)); room-opened = omega (arith, r .room-opened, h .one-opened) }
 
@@ -74,10 +74,10 @@ module _ (window : Window) (n m n₀ m₀ limit : ℕ) (es f g h : Placed) (e : 
       let p : m ≡ m₀ + openedByWindow window (forestOf f) = cc in
       omega (arith, between (openedByWindow window) (opened-join window) es f g h e)
 
-pub room-between : (look : Look) (n m n₀ m₀ : ℕ) (es f g h : Placed) → es ≡ (f ⧻ g) ⧻ h → Seen n m ≡ seen (windowOf (look .window)) n₀ m₀ (forestOf f)
+pub room-between : (look : Look) (n m n₀ m₀ : ℕ) (es f g h : Placed) → es ≡ (f ⧻ g) ⧻ h → Seen n m ≡ seen (windowBetween (look .corners)) n₀ m₀ (forestOf f)
     → RoomFor look n₀ m₀ (forestOf es) → RoomFor look n m (forestOf g)
 room-between look n m n₀ m₀ es f g h e past r =
     record {
-      room-found = found-between (windowOf (look .window)) n m n₀ m₀ (look .most) es f g h e past (r .room-found);
-      room-opened = opened-between (windowOf (look .window)) n m n₀ m₀ (look .layout .slots) es f g h e past (r .room-opened);
+      room-found = found-between (windowBetween (look .corners)) n m n₀ m₀ (look .most) es f g h e past (r .room-found);
+      room-opened = opened-between (windowBetween (look .corners)) n m n₀ m₀ (look .layout .slots) es f g h e past (r .room-opened);
     }

@@ -16,7 +16,8 @@ use Rattle.store.specs.Placed.{Placed, forestOf}
 use Rattle.store.specs.Sound.{Holds}
 use Rattle.store.proofs.SoundView.{sound-view}
 use Rattle.store.proofs.BlockView.{BlockView, root-view}
-use Rattle.query.specs.Counting.{foundIn, Ordered, BeginsOnPanel}
+use Rattle.query.specs.Corners.{Ordered}
+use Rattle.query.specs.Counting.{foundIn, BeginsOnPanel}
 use Rattle.query.proofs.WindowTests.{corners-exactly, corners-decide}
 use Rattle.query.proofs.WindowParts.{found-few, opened-few, block-opened}
 

@@ -1,21 +1,22 @@
 -- The tests that the code makes of a window, against what they decide.
-use Prim.Native.Nat.{ℕ, _+_, _*_, _%_, _^_, _≤_, _<_}
+use Prim.Native.Nat.{ℕ, _+_, _*_, _/_, _%_, _^_, _≤_, _<_}
+use native.Mathlib.Decide.{decLt}
 use native.Mathlib.Omega.{arith}
-use mathlib.Core.Path.{_≡_, refl, sym}
+use mathlib.Core.Path.{_≡_, refl, ap, sym, _∙_}
 use mathlib.Core.Logic.{_↔_}
 use mathlib.Core.Bool.{Bool, true, false, _&&_, and-eq-true-iff}
 use lib.Dec.{ltb, leb}
-use lib.Pow.{pow-mono}
-use borrow.Author.Tests.{lt-ltb, le-leb, ltb-true, leb-true}
+use lib.Pow.{pow-mono, pow-pos as side-pos}
+use borrow.Author.Tests.{lt-ltb, le-ltb, lt-leb, le-leb, ltb-true, leb-true}
 use Rattle.morton.specs.Code.{xOf, yOf}
 use Rattle.pktree.specs.Panel.{Panel, Valid, Aligned, Block}
 use Rattle.pktree.specs.Elements.{Forest}
 use Rattle.pktree.specs.Tree.{blockOf}
 use Rattle.pktree.specs.Window.{Window, sharesPixel}
-use Rattle.pktree.proofs.Alignment.{pow-pos}
-use Rattle.pktree.proofs.Windows.{corners-meet-exactly}
-use Rattle.query.specs.Corners.{cornersMeet}
-use Rattle.query.specs.Counting.{Ordered}
+use Rattle.pktree.proofs.Alignment.{pow-pos, blockCode-aligned, blockCode-le, blockCode-lt}
+use Rattle.pktree.proofs.Windows.{within-multiple, corner-of-aligned, block-is-square, corners-meet-exactly}
+use Rattle.query.specs.declared.window.Corners.{Corners}
+use Rattle.query.specs.Corners.{Ordered, cornersMeet, PixelTested, BlockTested}
 
 -- the side of a block of the panel, as the code makes it by a shift
 pub side-of-level : (level : ℕ) → level ≤ 16 → (1 * 2 ^ level % 4294967296 ≡ 2 ^ level) × (2 ^ level ≤ 65536)
@@ -46,12 +47,48 @@ corners-exactly window level code =
       (λ h. both .1 (x .1 (h .0, h .1), y .1 (h .2, h .3))),
     )
 
--- the test of the corners says whether the block and the window have a pixel in common: on the largest panel, which has every block
+-- the largest panel, which has every block
+abbrev largest : Panel
+largest = record { order = 16; k = 2 }
+
+largest-valid : Valid largest
+largest-valid = record { order-from = omega arith; order-to = omega arith; k-from = omega arith; k-to = omega arith }
+
+-- the test of the corners says whether the block and the window have a pixel in common
 pub corners-decide
     : (window : Window) (level code : ℕ) (es : Forest) → level ≤ 16 → Aligned level code → code + 4 ^ level ≤ 4 ^ 16 → Ordered window
     → cornersMeet window level code ≡ sharesPixel window (blockOf level code es)
 corners-decide window level code es low aligned ends ordered =
-    let panel : Panel = record { order = 16; k = 2 } in
-    let valid : Valid panel = record { order-from = omega arith; order-to = omega arith; k-from = omega arith; k-to = omega arith } in
-    let block : Block panel level code = record { low = low; aligned = aligned; corner = omega (arith, pow-pos level) } in
-    same-test _ _ (corners-exactly window level code) (corners-meet-exactly panel window level code es valid block (ordered .x-ordered) (ordered .y-ordered))
+    let block : Block largest level code = record { low = low; aligned = aligned; corner = omega (arith, pow-pos level) } in
+    same-test _ _ (corners-exactly window level code) (corners-meet-exactly largest window level code es largest-valid block (ordered .x-ordered) (ordered .y-ordered))
+
+-- for a and c on the grid of side w, and p in the square at a
+grid-test : (w a c p : ℕ) → 0 < w → a / w * w ≡ a → c / w * w ≡ c → a ≤ p → p < a + w → leb a c ≡ ltb p (c + w)
+grid-test w a c p pos ga gc from to = go (decLt p (c + w)) (decLt p c)
+  where
+    go : Dec (p < c + w) → Dec (p < c) → leb a c ≡ ltb p (c + w)
+    go (no h) d = lt-leb a c (omega arith) ∙ sym (le-ltb p (c + w) (omega arith))
+    go (yes h) (yes q) = le-leb a c (omega arith) ∙ sym (lt-ltb p (c + w) h)
+    go (yes h) (no q) =
+        let ea = within-multiple w a p pos ga .0 (from, to) in
+        let ec = within-multiple w c p pos gc .0 (omega arith, h) in
+        let e : a / w * w ≡ c / w * w = ap (λ (n : ℕ). n * w) (sym ea ∙ ec) in
+        le-leb a c (omega arith) ∙ sym (lt-ltb p (c + w) h)
+
+-- a block meets the window where its lowest corner is in the window that begins with the whole block around the first pixel
+pub block-tested : (corners : Corners) (level code : ℕ) {around : ℕ} {r : Bool} → corners .first < 4 ^ 16 → level ≤ 15 → around ≡ corners .first / 4 ^ level * 4 ^ level
+    → PixelTested (record { first = around; last = corners .last }) code r → BlockTested corners level code r
+block-tested corners level code {around} small low e tested =
+    record {
+      says = λ aligned ordered.
+          let first : ℕ = corners .first in
+          let on-grid : Aligned level around = rw e (blockCode-aligned level first) in
+          let from : around ≤ first = omega (arith, e, blockCode-le level first) in
+          let block : Block largest level around = record { low = omega arith; aligned = on-grid; corner = omega arith } in
+          let square = block-is-square largest level around first largest-valid block small .0 (from, omega (arith, e, blockCode-lt level first)) in
+          let a = corner-of-aligned level around (omega arith) on-grid in
+          let c = corner-of-aligned level code (omega arith) aligned in
+          let x = grid-test (2 ^ level) (xOf around) (xOf code) (xOf first) (side-pos level) (a .grid-x) (c .grid-x) (square .0) (square .1) in
+          let y = grid-test (2 ^ level) (yOf around) (yOf code) (yOf first) (side-pos level) (a .grid-y) (c .grid-y) (square .2) (square .3) in
+          tested .says (record { x-ordered = omega (arith, square .0, ordered .x-ordered); y-ordered = omega (arith, square .2, ordered .y-ordered) }) ∙ rw (x, y);
+    }

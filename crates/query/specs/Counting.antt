@@ -1,10 +1,10 @@
 -- What a window walk over a part of the tree answers.
-use Prim.Native.Nat.{ℕ, suc, _+_, _^_, _≤_, _<_}
+use Prim.Native.Nat.{ℕ, suc, _+_, _*_, _^_, _≤_, _<_}
 use mathlib.Core.Path.{_≡_}
 use mathlib.Core.List.{List}
 use lib.ListN.{length, getD}
 use Rattle.pktree.specs.Panel.{Panel}
-use Rattle.pktree.specs.Elements.{Forest, empty, pixel, block}
+use Rattle.pktree.specs.Elements.{Forest, empty, pixel}
 use Rattle.pktree.specs.PixelSet.{member}
 use Rattle.pktree.specs.Tree.{pixels, tree as setTree}
 use Rattle.pktree.specs.Window as tree
@@ -13,37 +13,40 @@ use Rattle.store.specs.Placed.{Placed, forestOf}
 use Rattle.store.specs.Sizes.{panelOf, slotCount, slotWidth, sizesOf}
 use Rattle.store.specs.Sound.{Holds}
 use Rattle.store.specs.Layout.{LayoutFits}
-use Rattle.store.specs.Opening.{CannotOpen}
-use Rattle.store.proofs.BlockView.{BlockView, ChildView}
-use Rattle.store.specs.declared.elements.Element.{Element}
-use Rattle.store.specs.declared.elements.Element.the-variants.{Pixel, Block}
+use Rattle.store.specs.Opening.{HeaderSays, CannotOpen}
+use Rattle.store.specs.Slot.{slotPart}
+use Rattle.store.proofs.BlockView.{BlockView}
 use Rattle.query.specs.declared.count.Look.{Look}
 use Rattle.query.specs.declared.count.Counted.{Counted}
 use Rattle.query.specs.declared.count.Counted.the-variants.{Seen, Damaged}
-use Rattle.query.specs.Corners.{windowOf}
+use Rattle.store.specs.declared.sizes.Layout.{Layout}
+use Rattle.store.specs.declared.opening.Opening.{Opening}
+use Rattle.store.specs.declared.opening.Opening.the-variants as opening
+use Rattle.query.specs.declared.window.Corners.{Corners}
+use Rattle.query.specs.Corners.{windowBetween, Ordered}
 
 -- how many pixels of some elements a window has
 abbrev pub foundIn : tree.Window → Forest → ℕ
 foundIn window f = length (found window (pixels f))
-
--- refusal 8 does not apply
-pub record Ordered (window : tree.Window) : Type 0 where
-  pub x-ordered : window .x0 ≤ window .x1
-  pub y-ordered : window .y0 ≤ window .y1
 
 -- the window begins on the panel, so that the root is opened; that it ends there too is not needed
 pub record BeginsOnPanel (panel : Panel) (window : tree.Window) : Type 0 where
   pub x-on : window .x0 < 2 ^ panel .order
   pub y-on : window .y0 < 2 ^ panel .order
 
--- what every call of the walk may rely on, on any words
-pub record CanCount (look : Look) (words : List ℕ) (slot level found opened : ℕ) : Type 0 where
+-- what every call of the walk may rely on, on any words: before its end a block adds at most 100 to what was found before it
+pub record CanCount (look : Look) (words : List ℕ) (level found opened : ℕ) : Type 0 where
   pub fits : LayoutFits (look .layout) words
-  pub slot-below : slot < look .layout .slots
   pub level-to : level ≤ 16
   pub most-to : look .most ≤ 65535
-  pub found-to : found ≤ look .most
+  pub found-to : found + 100 * level ≤ look .most + 1600
   pub opened-to : opened ≤ look .layout .slots
+
+-- a slot is opened where it is one of the slots, no more blocks were opened than there are slots, and it says what its parent says of it
+abbrev pub SlotOpening : Layout → List ℕ → ℕ → ℕ → ℕ → ℕ → Opening → Type 0
+SlotOpening layout words slot level code opened (opening.Elements count) =
+    (slot < layout .slots) × (opened < layout .slots) × HeaderSays (slotPart (layout .width) words slot) level code count
+SlotOpening layout words slot level code opened opening.Damaged = slot < layout .slots → opened < layout .slots → CannotOpen (layout .width) words slot level code
 
 -- the numbers stay in bounds
 abbrev pub CountBounds : Look → Counted → Type 0
@@ -56,25 +59,24 @@ seen window found opened f = Seen (found + foundIn window f) (opened + openedByW
 
 -- there is room for what these elements add: never too many on a sound store
 pub record RoomFor (look : Look) (found opened : ℕ) (f : Forest) : Type 0 where
-  pub room-found : found + foundIn (windowOf (look .window)) f ≤ look .most
-  pub room-opened : opened + openedByWindow (windowOf (look .window)) f ≤ look .layout .slots
+  pub room-found : found + foundIn (windowBetween (look .corners)) f ≤ look .most
+  pub room-opened : opened + openedByWindow (windowBetween (look .corners)) f ≤ look .layout .slots
 
 pub record CountMeets (look : Look) (words : List ℕ) (slot level code found opened : ℕ) (r : Counted) : Type 0 where
   pub bounds : CountBounds look r
-  pub right : (k : ℕ) (es : Placed) → BlockView k (look .layout .width) (look .layout .slots) words slot level code es → Ordered (windowOf (look .window))
-      → RoomFor look found (suc opened) (forestOf es) → r ≡ seen (windowOf (look .window)) found (suc opened) (forestOf es)
+  pub right : (k : ℕ) (es : Placed) → BlockView k (look .layout .width) (look .layout .slots) words slot level code es → Ordered (windowBetween (look .corners))
+      → RoomFor look found (suc opened) (forestOf es) → r ≡ seen (windowBetween (look .corners)) found (suc opened) (forestOf es)
   pub closed : CannotOpen (look .layout .width) words slot level code → r ≡ Damaged
 
-abbrev pub ElementRight : Look → List ℕ → Element → ℕ → ℕ → ℕ → Counted → Type 0
-ElementRight look words (Pixel c) level found opened r =
-    RoomFor look found opened (pixel c empty) → r ≡ seen (windowOf (look .window)) found opened (pixel c empty)
-ElementRight look words (Block s i c) level found opened r =
-    (k code : ℕ) (fs : Placed) → ChildView k (look .layout .width) (look .layout .slots) words level code s i c fs → Ordered (windowOf (look .window))
-    → RoomFor look found opened (block i c (forestOf fs) empty) → r ≡ seen (windowOf (look .window)) found opened (block i c (forestOf fs) empty)
+-- a pixel is added to those found exactly if the window has it
+pub record PixelCounted (corners : Corners) (code found r : ℕ) : Type 0 where
+  pub few : r ≤ found + 1
+  pub right : Ordered (windowBetween corners) → r ≡ found + foundIn (windowBetween corners) (pixel code empty)
 
-pub record CountElementMeets (look : Look) (words : List ℕ) (element : Element) (level found opened : ℕ) (r : Counted) : Type 0 where
-  pub bounds : CountBounds look r
-  pub right : ElementRight look words element level found opened r
+-- these numbers, unless more pixels are found than may be
+abbrev pub SeenAtMost : ℕ → ℕ → ℕ → Counted → Type 0
+SeenAtMost most found opened (Seen f o) = (f ≡ found) × (o ≡ opened) × (found ≤ most)
+SeenAtMost most found opened Damaged = most < found
 
 -- never more pixels found than N, nor more blocks opened than S
 pub record WithinSizes (words : List ℕ) (found opened : ℕ) : Type 0 where

@@ -1,15 +1,17 @@
 ghost use Prim.Native.Nat.{_+_, _*_, _≤_, _<_};
 ghost use mathlib.Core.Path.{_≡_};
-ghost use Rattle.query.specs.Counting.{CanCount, CountMeets, CountElementMeets, CountAnswer};
-ghost use Rattle.query.specs.Corners.{windowOf};
+ghost use Rattle.query.specs.Counting.{CanCount, PixelCounted, SeenAtMost, CountMeets, CountAnswer};
+ghost use Rattle.query.specs.Corners.{windowOf, HasCodes};
 ghost use Rattle.store.specs.Sizes.{UsableStore, sizesOf};
+use crate::opened::open_slot;
+use crate::window::Corners;
 use crate::window::Window;
+use crate::window::corners_of;
 use crate::window::has_pixel;
 use crate::window::meets;
 use store::elements::Element;
 use store::elements::element_at;
 use store::opening::Opening;
-use store::opening::open_part;
 use store::sizes::Layout;
 use store::sizes::Sizes;
 use store::sizes::layout_of;
@@ -20,7 +22,7 @@ use store::slots::wide;
 pub struct Look {
     pub layout: Layout,
     pub most: u32,
-    pub window: Window,
+    pub corners: Corners,
 }
 
 pub enum Counted {
@@ -28,104 +30,76 @@ pub enum Counted {
     Damaged,
 }
 
+pub fn count_pixel(corners: Corners, code: u32, found: u32) -> u32
+    requires { ⌜ found < 4294967295 ⌝ }
+    ensures { λ r. ⌜ PixelCounted corners code found r ⌝ }
+{
+    if has_pixel(corners, code) {
+        return found + 1;
+    }
+    found
+}
+
+// More pixels than 01's N are found on damaged words only.
+pub fn at_most(most: u32, found: u32, opened: u32) -> Counted
+    ensures { λ r. ⌜ SeenAtMost most found opened r ⌝ }
+{
+    if most < found {
+        return Counted::Damaged;
+    }
+    Counted::Seen { found, opened }
+}
+
 // The block in this slot is opened: `found` pixels were found and `opened` blocks opened before it.
 pub fn count_block(
     store: &[u32],
     look: Look,
-    slot: usize,
+    slot: u32,
     level: u32,
     code: u32,
     found: u32,
     opened: u32,
 ) -> Counted
-    requires { ⌜ CanCount look (now store) slot level found opened ⌝ }
+    requires { ⌜ CanCount look (now store) level found opened ⌝ }
     ensures { λ r. ⌜ CountMeets look (now (store .entry)) slot level code found opened r ⌝ }
 {
-    let layout = look.layout;
-    if layout.slots <= wide(opened) {
-        return Counted::Damaged;
-    }
-    let part = slot_part(store, layout, slot);
-    let Opening::Elements(count) = open_part(part, level, code) else {
+    let Opening::Elements(count) = open_slot(store, look.layout, slot, level, code, opened) else {
         return Counted::Damaged;
     };
-    let mut found_now = found;
-    let mut opened_now = opened + 1;
-    let mut i = 0;
-    while i < count {
-        let element = element_at(part, i);
-        let Counted::Seen {
-            found: f,
-            opened: o,
-        } = count_element(store, look, element, level, found_now, opened_now)
-        else {
-            return Counted::Damaged;
-        };
-        found_now = f;
-        opened_now = o;
-        i += 1;
-    }
-    Counted::Seen {
-        found: found_now,
-        opened: opened_now,
-    }
-}
-
-// One element of a block of this level: a pixel is looked at, a block that meets the window is opened.
-pub fn count_element(
-    store: &[u32],
-    look: Look,
-    element: Element,
-    level: u32,
-    found: u32,
-    opened: u32,
-) -> Counted
-    requires { ⌜ CanCount look (now store) 0 level found opened ⌝ }
-    ensures { λ r. ⌜ CountElementMeets look (now (store .entry)) element level found opened r ⌝ }
-{
-    let layout = look.layout;
-    let window = look.window;
-    match element {
-        Element::Pixel(code) => {
-            if !has_pixel(window, code) {
-                return Counted::Seen { found, opened };
-            }
-            if look.most <= found {
-                return Counted::Damaged;
-            }
-            Counted::Seen {
-                found: found + 1,
-                opened,
+    let part = slot_part(store, look.layout, wide(slot));
+    let above = level;
+    let mut pixels = found;
+    let mut blocks = opened + 1;
+    for i in 0..count {
+        match element_at(part, i) {
+            Element::Pixel(code) => pixels = count_pixel(look.corners, code, pixels),
+            Element::Block { slot, level, code } => {
+                if above <= level {
+                    return Counted::Damaged;
+                }
+                if meets(look.corners, level, code) {
+                    let seen = count_block(store, look, slot, level, code, pixels, blocks);
+                    let Counted::Seen { found, opened } = seen else {
+                        return Counted::Damaged;
+                    };
+                    pixels = found;
+                    blocks = opened;
+                }
             }
         }
-        Element::Block {
-            slot,
-            level: inner,
-            code,
-        } => {
-            if level <= inner {
-                return Counted::Damaged;
-            }
-            if !meets(window, inner, code) {
-                return Counted::Seen { found, opened };
-            }
-            if layout.slots <= wide(slot) {
-                return Counted::Damaged;
-            }
-            count_block(store, look, wide(slot), inner, code, found, opened)
-        }
     }
+    at_most(look.most, pixels, blocks)
 }
 
 // 01's count, where refusals 3, 4 and 8 do not apply.
 pub fn count(store: &[u32], sizes: Sizes, window: Window) -> Counted
-    requires { ⌜ UsableStore (now store) × (sizes ≡ sizesOf (now store)) ⌝ }
+    requires { ⌜ UsableStore (now store) × (sizes ≡ sizesOf (now store)) × HasCodes window ⌝ }
     ensures { λ r. ⌜ CountAnswer (now (store .entry)) (windowOf window) r ⌝ }
 {
     let look = Look {
         layout: layout_of(sizes),
         most: sizes.most,
-        window,
+        corners: corners_of(window),
     };
     count_block(store, look, 0, sizes.order, 0, 0, 0)
 }

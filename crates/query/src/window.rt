@@ -1,7 +1,5 @@
 ghost use Prim.Native.Nat.{_≤_};
-ghost use mathlib.Core.Path.{_≡_};
-ghost use Rattle.pktree.specs.Window.{inWindow};
-ghost use Rattle.query.specs.Corners.{windowOf, cornersMeet};
+ghost use Rattle.query.specs.Corners.{HasCodes, CornersOf, PixelTested, BlockTested};
 
 // 01: both corners included.
 pub struct Window {
@@ -11,39 +9,39 @@ pub struct Window {
     pub y1: u32,
 }
 
-pub fn has_pixel(window: Window, code: u32) -> bool
-    ensures { λ r. ⌜ r ≡ inWindow (windowOf window) code ⌝ }
-{
-    let x = morton::x_of(code);
-    if x < window.x0 {
-        return false;
-    }
-    if window.x1 < x {
-        return false;
-    }
-    let y = morton::y_of(code);
-    if y < window.y0 {
-        return false;
-    }
-    y <= window.y1
+// The codes of a window's lowest and highest pixel: a walk compares codes, and takes none apart.
+pub struct Corners {
+    pub first: u32,
+    pub last: u32,
 }
 
-// The corners of a block against those of the window.
-pub fn meets(window: Window, level: u32, code: u32) -> bool
-    requires { ⌜ level ≤ 16 ⌝ }
-    ensures { λ r. ⌜ r ≡ cornersMeet (windowOf window) level code ⌝ }
+pub fn corners_of(window: Window) -> Corners
+    requires { ⌜ HasCodes window ⌝ }
+    ensures { λ r. ⌜ CornersOf window r ⌝ }
 {
-    let side = 1u32 << level;
-    let corner_x = morton::x_of(code);
-    if corner_x + side <= window.x0 {
+    Corners {
+        first: morton::code_of(window.x0, window.y0),
+        last: morton::code_of(window.x1, window.y1),
+    }
+}
+
+pub fn has_pixel(corners: Corners, code: u32) -> bool
+    ensures { λ r. ⌜ PixelTested corners code r ⌝ }
+{
+    if !morton::x_between(corners.first, corners.last, code) {
         return false;
     }
-    if window.x1 < corner_x {
-        return false;
-    }
-    let corner_y = morton::y_of(code);
-    if corner_y + side <= window.y0 {
-        return false;
-    }
-    corner_y <= window.y1
+    morton::y_between(corners.first, corners.last, code)
+}
+
+// A block meets the window where its lowest corner is in the window that begins with the whole block around the first pixel.
+pub fn meets(corners: Corners, level: u32, code: u32) -> bool
+    requires { ⌜ level ≤ 15 ⌝ }
+    ensures { λ r. ⌜ BlockTested corners level code r ⌝ }
+{
+    let from_block = Corners {
+        first: morton::block_around(corners.first, level),
+        last: corners.last,
+    };
+    has_pixel(from_block, code)
 }

@@ -1,12 +1,13 @@
 -- What ask, count, list and save ensure, from what judges their refusals and what walks the store.
-use Prim.Native.Nat.{ℕ}
+use Prim.Native.Nat.{ℕ, _^_, _≤_}
 use native.Mathlib.Omega.{arith}
 use native.Mathlib.Nat.{zero-add}
 use mathlib.Core.Path.{_≡_, refl, ap, ap₂, subst, _∙_}
 use mathlib.Core.Logic.{inl, inr}
 use mathlib.Core.Bool.{Bool}
 use mathlib.Core.List.{List, _++_}
-use lib.ListN.{length, drop}
+use lib.ListN.{length, getD, drop}
+use lib.Pow.{pow-mono}
 use Rattle.pktree.specs.PixelSet.{member}
 use Rattle.pktree.specs.Tree.{tree}
 use Rattle.pktree.specs.Window.{found, openedByPixel, openedByWindow}
@@ -17,6 +18,7 @@ use Rattle.refusals.specs.Judged.{PixelGiven, PixelRefused, CornersOn, WindowGi
 use Rattle.query.specs.declared.ask.Asked.the-variants as asked
 use Rattle.query.specs.Asking.{AskAnswer}
 use Rattle.query.specs.declared.count.Counted.the-variants as counted
+use Rattle.query.specs.Corners.{HasCodes}
 use Rattle.query.specs.Counting.{CountAnswer}
 use Rattle.listing.specs.declared.Listed.the-variants as listed
 use Rattle.listing.specs.Listing.{ListAnswer}
@@ -33,6 +35,13 @@ use Rattle.register.specs.Count.{windowGiven, InOrder, WindowRefusals, C
 use Rattle.register.specs.List.{ListMeets}
 use Rattle.register.specs.Save.{SaveMeets}
 use Rattle.register.proofs.Pixels.{spoiled-shut, pixel-refused, never-refused-pixel, pixel-given}
+
+-- corners on the panel have codes
+pub have-codes : {words : List ℕ} {x0 y0 x1 y1 : ℕ} {sizes : Sizes} → WindowGiven words x0 y0 x1 y1 sizes → HasCodes (record { x0 = x0; y0 = y0; x1 = x1; y1 = y1 })
+have-codes {words} p =
+    let side : 2 ^ getD words 1 0 ≤ 2 ^ 16 = pow-mono (p .usable .valid .panel .order-to) in
+    let on = p .on-panel in
+    record { x0-below = omega (arith, on .0 .0); y0-below = omega (arith, on .0 .1); x1-below = omega (arith, on .1 .0); y1-below = omega (arith, on .1 .1) }
 
 module _ (words : List ℕ) (x y : ℕ) where
   pub ask-refused : (n : ℕ) → PixelRefused words x y n → AskMeets words x y (asking.Refused n)

@@ -2,11 +2,12 @@
 use Prim.Native.Nat.{ℕ, _+_, _≤_, _<_}
 use native.Mathlib.Omega.{arith}
 use borrow.Author.Needs.{needs}
-use mathlib.Core.Path.{_≡_, refl, ap, _∙_}
+use mathlib.Core.Path.{_≡_, refl, ap, subst, sym, _∙_}
 use mathlib.Core.List.{List}
 use lib.ListN.{length, getD}
 use denote.Ref.{now}
 use Rattle.pktree.specs.Tree.{pixels}
+use Rattle.pktree.specs.Window as tree
 use Rattle.pktree.specs.Window.{found, openedByWindow}
 use Rattle.pktree.proofs.Absurd.{zero-is-not-one}
 use Rattle.store.specs.Placed.{Placed, forestOf}
@@ -14,18 +15,20 @@ use Rattle.store.specs.Sizes.{panelOf, sizesOf}
 use Rattle.store.specs.Sound.{Holds}
 use Rattle.query.specs.declared.count.Counted.{Counted}
 use Rattle.query.specs.declared.count.Counted.the-variants.{Seen, Damaged}
+use Rattle.listing.specs.declared.Listed.{Listed}
 use Rattle.listing.specs.declared.Listed.the-variants.{Written, Short, Broken}
 use Rattle.query.specs.declared.window.Window.{Window}
-use Rattle.query.specs.Corners.{windowOf}
-use Rattle.query.specs.Counting.{Ordered, BeginsOnPanel, CountAnswer}
+use Rattle.query.specs.declared.window.Corners.{Corners}
+use Rattle.query.specs.Corners.{windowBetween, windowOf, CornersOf, Ordered}
+use Rattle.query.specs.Counting.{BeginsOnPanel, CountAnswer}
 use Rattle.listing.specs.Listing.{writtenAt, Wrote, ListMeets, ListAnswer}
 use Rattle.query.proofs.WholeTree.{WholeTree, whole-tree}
 use Rattle.query.proofs.RootLook.{rootLook, sizes-valid, can-start, of-root-look, room-at-root}
 use Rattle.listing.proofs.list.Statement.{statement}
 use Rattle.listing.proofs.list.Tie as tie
 
-module _ {words : List ℕ} {window : Window} {counted : Counted} (count : CountAnswer words (windowOf window) counted) where
-  not-counted : {before : List ℕ} → counted ≡ Damaged → ListAnswer words (windowOf window) before before Broken
+module _ {words : List ℕ} {window : tree.Window} {counted : Counted} (count : CountAnswer words window counted) where
+  not-counted : {before : List ℕ} → counted ≡ Damaged → ListAnswer words window before before Broken
   not-counted e =
       record {
         bounds = tt;
@@ -36,7 +39,7 @@ module _ {words : List ℕ} {window : Window} {counted : Counted} (count : Count
       }
 
   module _ {n m : ℕ} (e : counted ≡ Seen n m) where
-    too-short : {before : List ℕ} → length before < n → ListAnswer words (windowOf window) before before (Short n)
+    too-short : {before : List ℕ} → length before < n → ListAnswer words window before before (Short n)
     too-short {before} h =
         let b = rw e at (count .bounds) in
         record {
@@ -47,44 +50,52 @@ module _ {words : List ℕ} {window : Window} {counted : Counted} (count : Count
           closed = λ shut. let s = count .closed shut in zero-is-not-one (cc);
         }
 
-    module _ {before after : List ℕ} {r : Counted} (fits : n ≤ length before)
-        (meets : ListMeets (rootLook words window) words 0 (getD words 1 0) 0 0 0 before after r) where
-      -- the walk from the root has written what is below it
-      root-wrote : (set : List ℕ) → Holds words set → Ordered (windowOf window) → BeginsOnPanel (panelOf (sizesOf words)) (windowOf window)
-          → (es : Placed) × WholeTree words (windowOf window) set es × Wrote (rootLook words window) (forestOf es) 0 1 before after r
-      root-wrote set holds ordered on =
-          let (es, t) = whole-tree words (windowOf window) set holds ordered on in
-          let s = count .sound set holds ordered on in
-          let p : n ≡ length (found (windowOf window) set) = cc in
-          (es, t, meets .right (getD words 2 0) es (t .view) ordered (room-at-root t) (omega (arith, ap length (t .all-found))))
+module _ {words : List ℕ} {corners : Corners} {counted : Counted} {n m : ℕ} {before after : List ℕ} {r : Counted} (e : counted ≡ Seen n m) (fits : n ≤ length before)
+    (meets : ListMeets (rootLook words corners) words 0 (getD words 1 0) 0 0 0 before after r) (count : CountAnswer words (windowBetween corners) counted) where
+  -- the walk from the root has written what is below it
+  root-wrote : (set : List ℕ) → Holds words set → Ordered (windowBetween corners) → BeginsOnPanel (panelOf (sizesOf words)) (windowBetween corners)
+      → (es : Placed) × WholeTree words (windowBetween corners) set es × Wrote (rootLook words corners) (forestOf es) 0 1 before after r
+  root-wrote set holds ordered on =
+      let (es, t) = whole-tree words (windowBetween corners) set holds ordered on in
+      let s = count .sound set holds ordered on in
+      let p : n ≡ length (found (windowBetween corners) set) = cc in
+      (es, t, meets .right (getD words 2 0) es (t .view) ordered (room-at-root t) (omega (arith, ap length (t .all-found))))
 
-      not-listed : r ≡ Damaged → ListAnswer words (windowOf window) before after Broken
-      not-listed f =
-          record {
-            bounds = tt;
-            sound = λ set holds ordered on. let (es, t, w) = root-wrote set holds ordered on in let a = w .answer in zero-is-not-one (cc);
-            short = λ x g. zero-is-not-one (cc);
-            long = meets .long;
-            closed = λ shut. refl;
-          }
+  not-listed : r ≡ Damaged → ListAnswer words (windowBetween corners) before after Broken
+  not-listed f =
+      record {
+        bounds = tt;
+        sound = λ set holds ordered on. let (es, t, w) = root-wrote set holds ordered on in let a = w .answer in zero-is-not-one (cc);
+        short = λ x g. zero-is-not-one (cc);
+        long = meets .long;
+        closed = λ shut. refl;
+      }
 
-      listed : {x y : ℕ} → r ≡ Seen x y → ListAnswer words (windowOf window) before after (Written n y)
-      listed {x} {y} f =
-          let b = rw e at (count .bounds) in
-          let o = rw f at (meets .bounds) in
-          record {
-            bounds = (record { found-to = b .found-to; opened-to = o .1 }, fits);
-            sound = λ set holds ordered on.
-                let (es, t, w) = root-wrote set holds ordered on in
-                let a = w .answer in
-                let q : y ≡ 1 + openedByWindow (windowOf window) (forestOf es) = cc in
-                let s = count .sound set holds ordered on in
-                let z : n ≡ length (found (windowOf window) set) = cc in
-                (z, omega (arith, t .all-opened), fits, w .output ∙ ap (writtenAt before 0) (t .all-found));
-            short = λ n g. zero-is-not-one (cc);
-            long = meets .long;
-            closed = λ shut. let s = count .closed shut in zero-is-not-one (cc);
-          }
+  listed : {x y : ℕ} → r ≡ Seen x y → ListAnswer words (windowBetween corners) before after (Written n y)
+  listed {x} {y} f =
+      let b = rw e at (count .bounds) in
+      let o = rw f at (meets .bounds) in
+      record {
+        bounds = (record { found-to = b .found-to; opened-to = o .1 }, fits);
+        sound = λ set holds ordered on.
+            let (es, t, w) = root-wrote set holds ordered on in
+            let a = w .answer in
+            let q : y ≡ 1 + openedByWindow (windowBetween corners) (forestOf es) = cc in
+            let s = count .sound set holds ordered on in
+            let z : n ≡ length (found (windowBetween corners) set) = cc in
+            (z, omega (arith, t .all-opened), fits, w .output ∙ ap (writtenAt before 0) (t .all-found));
+        short = λ n g. zero-is-not-one (cc);
+        long = meets .long;
+        closed = λ shut. let s = count .closed shut in zero-is-not-one (cc);
+      }
+
+-- what is answered of the window between the corners is answered of the call's
+of-corners : {words : List ℕ} {counted : Counted} {before after : List ℕ} {r : Listed} (window : Window) (corners : Corners) → CornersOf window corners
+    → (CountAnswer words (windowBetween corners) counted → ListAnswer words (windowBetween corners) before after r)
+    → CountAnswer words (windowOf window) counted → ListAnswer words (windowOf window) before after r
+of-corners {words} {counted} {before} {after} {r} window corners same answer count =
+    subst (λ (w : tree.Window). ListAnswer words w before after r) (same .same-window)
+    (answer (subst (λ (w : tree.Window). CountAnswer words w counted) (sym (same .same-window)) count))
 
 returns : tie.Need-returns
 returns c = not-counted (c .before .before .count .ensures) (c .enum-told .given .1)
@@ -96,33 +107,35 @@ layout-of-requires : tie.Need-layout-of-requires
 layout-of-requires c κs = let a = c .before .before .before .before .before .before .before .before in sizes-valid (a .pre .0) (a .pre .1)
 
 list-block-requires : tie.Need-list-block-requires
-list-block-requires c κs =
-    let a = c .before .before .before .before .before .before .before .before .before .before in
-    can-start (a .pre .0) (a .pre .1) (c .before .layout-of .ensures)
+list-block-requires c κs = let a = c .before .before .before .before .before .before .before .before .before .before .before in can-start (a .pre .0) (a .pre .1) (c .before .before .layout-of .ensures)
 
 -- what the walk ensures, said of the words' own look
 walked : (c : tie.After-list-block)
-    → let a = c .before .before .before .before .before .before .before .before .before .before .before .args in
-    ListMeets (rootLook (now (a .store)) (a .window)) (now (a .store)) 0 (getD (now (a .store)) 1 0) 0 0 0 (now (a .output))
+    → let a = c .before .before .before .before .before .before .before .before .before .before .before .before .args in
+    ListMeets (rootLook (now (a .store)) (c .before .before .corners-of .result)) (now (a .store)) 0 (getD (now (a .store)) 1 0) 0 0 0 (now (a .output))
     (c .list-block .last .1 .1 .1 .1 .1 .0) (c .list-block .result)
 walked c =
-    let a = c .before .before .before .before .before .before .before .before .before .before .before in
+    let a = c .before .before .before .before .before .before .before .before .before .before .before .before in
     let words = now (a .args .store) in
-    of-root-look words (a .args .window)
+    of-root-look words (c .before .before .corners-of .result)
     (λ look order. ListMeets look words 0 order 0 0 0 (now (a .args .output)) (c .list-block .last .1 .1 .1 .1 .1 .0) (c .list-block .result)) (a .pre .1)
-    (c .before .before .layout-of .ensures) (c .list-block .ensures)
+    (c .before .before .before .layout-of .ensures) (c .list-block .ensures)
 
 returns-3 : tie.Need-returns-3
 returns-3 c =
     let on = c .before .before .before .before in
-    let seen = on .before .before .before .before .before .before in
-    not-listed (seen .before .before .count .ensures) (seen .found .given .1) (omega (arith, on .before .before .before)) (walked on) (c .enum-told2 .given .1)
+    let seen = on .before .before .before .before .before .before .before in
+    of-corners _ _ (on .before .before .corners-of .ensures)
+    (λ count. not-listed (seen .found .given .1) (omega (arith, on .before .before .before .before)) (walked on) count (c .enum-told2 .given .1))
+    (seen .before .before .count .ensures)
 
 returns-4 : tie.Need-returns-4
 returns-4 c =
     let on = c .before .before .before .before .before in
-    let seen = on .before .before .before .before .before .before in
-    listed (seen .before .before .count .ensures) (seen .found .given .1) (omega (arith, on .before .before .before)) (walked on) (c .before .opened .given .1)
+    let seen = on .before .before .before .before .before .before .before in
+    of-corners _ _ (on .before .before .corners-of .ensures)
+    (λ count. listed (seen .found .given .1) (omega (arith, on .before .before .before .before)) (walked on) count (c .before .opened .given .1))
+    (seen .before .before .count .ensures)
 
 pub list-spec : {M : Type 1} → statement M
 list-spec =
@@ -135,6 +148,7 @@ list-spec =
     (λ c κs. search needs)
     returns-2
     layout-of-requires
+    (λ c κs. search needs)
     list-block-requires
     (λ c. search needs)
     (λ c. search needs)

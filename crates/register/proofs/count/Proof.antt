@@ -1,13 +1,13 @@
 -- `register::count` meets its contract: `judge_window` decides the refusals, and the walk's answer is passed on.
 use borrow.Author.Needs.{needs}
-use Rattle.register.proofs.Looks.{count-refused, count-found, count-damaged}
+use Rattle.register.proofs.Looks.{have-codes, count-refused, count-found, count-damaged}
 use Rattle.register.proofs.count.Statement.{statement}
 use Rattle.register.proofs.count.Tie as tie
 
 count-requires : tie.Need-count-requires
 count-requires c κs =
     let p = rw (c .before .sizes .given .1) at (c .before .before .before .judge-window .ensures) in
-    (p .usable, p .sizes-are)
+    (p .usable, p .sizes-are, have-codes p)
 
 returns : tie.Need-returns
 returns c =

@@ -1,7 +1,7 @@
 -- `register::list` meets its contract: `judge_window` decides the refusals, and the walk's answer and output are passed on.
 use mathlib.Core.Path.{refl}
 use borrow.Author.Needs.{needs}
-use Rattle.register.proofs.Looks.{list-refused, list-written, list-short, list-damaged}
+use Rattle.register.proofs.Looks.{have-codes, list-refused, list-written, list-short, list-damaged}
 use Rattle.register.proofs.list.Statement.{statement}
 use Rattle.register.proofs.list.Tie as tie
 
@@ -9,7 +9,7 @@ list-requires : tie.Need-list-requires
 list-requires c κs =
     let s = c .before .before in
     let p = rw (s .sizes .given .1) at (s .before .before .judge-window .ensures) in
-    (p .usable, p .sizes-are)
+    (p .usable, p .sizes-are, have-codes p)
 
 returns : tie.Need-returns
 returns c =
