@@ -90,10 +90,13 @@ module _ {part : List ℕ} {count code place : ℕ} (ascending : AscendingCodes 
   pub few-reached : {level left right : ℕ} (k h : ℕ) → ReachedLeft part place code level left → ReachedRight part count place code level right → right - left < k → h ≤ level
       → countNear h code (codesFrom part 0 count) < k
   few-reached {level} {left} {right} k h l r room low =
-      omega (arith, near-count h code part count 0 left right (λ j a b e.
-        let n : Near level code (codeAt part j) = block-up _ _ low e in
-        let from : left < suc j = lt-of-not-le (λ w. l .ends (left - 1) (omega arith) (near-before level j (left - 1) (omega arith) (omega (arith, l .within)) n)) in
-        (omega arith, lt-of-not-le (λ w. r .ends (omega arith) (near-after level right j (r .low) w (omega arith) n)))))
+      omega (
+        arith,
+        near-count h code part count 0 left right (λ j a b e.
+            let n : Near level code (codeAt part j) = block-up _ _ low e in
+            let from : left < suc j = lt-of-not-le (λ w. l .ends (left - 1) (omega arith) (near-before level j (left - 1) (omega arith) (omega (arith, l .within)) n)) in
+            (omega arith, lt-of-not-le (λ w. r .ends (omega arith) (near-after level right j (r .low) w (omega arith) n)))),
+      )
 
   module _ {left right below above : ℕ} (p : left ≤ place) (q : place ≤ right) (low : LevelBefore part left code below) (high : LevelAt part count right code above) where
     -- neither side's next element is near at a lower level, so none farther out is

@@ -1,7 +1,6 @@
 // Where a block is to be formed: the run of elements that it takes. It only reads.
-ghost use Prim.Native.Nat.{_+_, _*_, _^_, _≤_, _<_};
+ghost use Prim.Native.Nat.{_^_, _≤_};
 ghost use mathlib.Core.Path.{_≡_};
-ghost use lib.ListN.{length};
 ghost use Rattle.store.specs.Splice.{PlaceOf};
 ghost use Rattle.runs.specs.Run.{Counted, LevelAt, LevelBefore, ReachedLeft, ReachedRight, RunMeets};
 use store::elements::find_place;

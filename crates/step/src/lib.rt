@@ -9,6 +9,7 @@ use rewrite::hand_up_all;
 use rewrite::hand_up_block;
 use rewrite::splice_slot;
 use runs::Run;
+use runs::block_size;
 use runs::find_run;
 use store::sizes::Layout;
 use store::slots::offset;
@@ -62,7 +63,7 @@ pub fn block_code(code: u32, level: u32) -> u32
     requires { ⌜ level ≤ 15 ⌝ }
     ensures { λ r. ⌜ r ≡ blockCode level code ⌝ }
 {
-    let size = 1u32 << (2 * level);
+    let size = block_size(level);
     code / size * size
 }
 

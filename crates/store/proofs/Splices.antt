@@ -31,8 +31,12 @@ paste-before d at a m b n hd =
     let h : length (take (at + m) d) ≡ at + m = length-take-le (at + m) d hd in
     let le : at ≤ length (take (at + m) d) = omega arith in
     let g : at ≤ at + m = omega arith in
-    rw (append-assoc (take (at + m) d) (take n b) (drop (at + m + n) d), drop-at (take (at + m) d) (take n b ++ drop (at + m + n) d) (at + m) h,
-      take-append-le at (take (at + m) d) (take n b ++ drop (at + m + n) d) le, take-take at (at + m) d g)
+    rw (
+      append-assoc (take (at + m) d) (take n b) (drop (at + m + n) d),
+      drop-at (take (at + m) d) (take n b ++ drop (at + m + n) d) (at + m) h,
+      take-append-le at (take (at + m) d) (take n b ++ drop (at + m + n) d) le,
+      take-take at (at + m) d g,
+    )
 
 -- the elements of a slot that is known in parts
 elements-at : (header elements rest : List ℕ) → length header ≡ 8 → length elements ≡ 2 * countWord header
