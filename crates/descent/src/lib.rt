@@ -16,10 +16,7 @@ use store::slots::wide;
 
 // What the elements of one block show of a code: it ends here, at a pixel of its own or between two elements, or in an inner block.
 pub enum Ahead {
-    Here {
-        place: usize,
-        marked: bool,
-    },
+    Here { place: usize, marked: bool },
     Inner(Entry),
 }
 
@@ -135,14 +132,7 @@ fn can_enter(layout: Layout, level: u32, slot: u32, inner: u32) -> bool
     true
 }
 
-fn found_at(
-    marked: bool,
-    slot: u32,
-    level: u32,
-    block: u32,
-    place: usize,
-    depth: usize,
-) -> Located
+fn found_at(marked: bool, slot: u32, level: u32, block: u32, place: usize, depth: usize) -> Located
     ensures { λ r. ⌜ FoundAt marked slot level block place depth r ⌝ }
 {
     Located {

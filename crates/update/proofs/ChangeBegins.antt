@@ -125,15 +125,15 @@ same-slots code a b old new o n =
     ∙ sym (slots-join a (old ⧻ b))
 
 -- the change is pending: where the pixels of `old` stood among those of the set, those of `new` are to stand
-pub record Begins (words : List ℕ) (usable : UsableStore words) (set : List ℕ) (code : ℕ) (located : Located) (old new : Placed) : Type 0 where
+pub record Begins (words : List ℕ) (usable : UsableStore words) (set : List ℕ) (code : ℕ) (slots places : List ℕ) (located : Located) (old new : Placed) : Type 0 where
   pub left : List ℕ
   pub right : List ℕ
   pub set-was : set ≡ left ++ (pixels (forestOf old) ++ right)
   pub few : length (left ++ (pixels (forestOf new) ++ right)) ≤ getD words 3 0
-  pub pending : PendingAt (settingOf words usable code (left ++ (pixels (forestOf new) ++ right)) few) words (located .slots) (located .places) (located .depth) (located .slot) (located .place)
+  pub pending : PendingAt (settingOf words usable code (left ++ (pixels (forestOf new) ++ right)) few) words slots places (located .depth) (located .slot) (located .place)
       (size (forestOf old)) (size (forestOf new)) (code ∷ 0 ∷ [])
 
-module _ (words : List ℕ) (placed : Placed) (sound : Sound words placed) (code : ℕ) (located : Located) (h : LocatedIn words placed code located) where
+module _ (words : List ℕ) (placed : Placed) (sound : Sound words placed) (code : ℕ) {slots places : List ℕ} (located : Located) (h : LocatedIn words placed code slots places located) where
   abbrev k : ℕ
   k = getD words 2 0
 
@@ -152,7 +152,7 @@ module _ (words : List ℕ) (placed : Placed) (sound : Sound words placed) (code
   begins : (old new : Placed) → AtMostPixel code old → AtMostPixel code new → h .es ≡ a ⧻ (old ⧻ b)
       → Disturbed k (quarterLevel (located .level)) (located .block) code (forestOf (a ⧻ (new ⧻ b)))
       → length (pixels (forestOf placed)) + length (pixels (forestOf new)) ≤ length (pixels (forestOf old)) + getD words 3 0
-      → Begins words (sound .usable) (pixels (forestOf placed)) code located old new
+      → Begins words (sound .usable) (pixels (forestOf placed)) code slots places located old new
   begins old new o n e disturbed room =
       let (l, r, pix) = between-pixels (h .way) a b in
       let target : List ℕ = l ++ (pixels (forestOf new) ++ r) in
@@ -227,7 +227,7 @@ module _ (words : List ℕ) (placed : Placed) (sound : Sound words placed) (code
 
   -- the pixel is to be put in, with room for it
   pub mark-begins : located .marked ≡ false → length (pixels (forestOf placed)) < getD words 3 0
-      → Begins words (sound .usable) (pixels (forestOf placed)) code located nothing (pixelThen code nothing)
+      → Begins words (sound .usable) (pixels (forestOf placed)) code slots places located nothing (pixelThen code nothing)
   mark-begins out room =
       let e : h .es ≡ a ⧻ b = h .place .is .1 out in
       begins nothing (pixelThen code nothing) (no-pixel code) (one-pixel code) e
@@ -237,7 +237,7 @@ module _ (words : List ℕ) (placed : Placed) (sound : Sound words placed) (code
       (omega arith)
 
   -- the pixel is to be taken out
-  pub clear-begins : located .marked ≡ true → Begins words (sound .usable) (pixels (forestOf placed)) code located (pixelThen code nothing) nothing
+  pub clear-begins : located .marked ≡ true → Begins words (sound .usable) (pixels (forestOf placed)) code slots places located (pixelThen code nothing) nothing
   clear-begins in-set =
       let e : h .es ≡ a ⧻ pixelThen code b = h .place .is .0 in-set in
       begins (pixelThen code nothing) nothing (one-pixel code) (no-pixel code) e
