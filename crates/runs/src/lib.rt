@@ -75,21 +75,23 @@ pub fn find_run(part: &[u32], count: usize, level: u32, k: usize, code: u32) -> 
     let mut left = place;
     let mut right = place;
     let mut reached: u32 = 0;
+    let mut below = level_before(part, count, left, code);
+    let mut above = level_at(part, count, right, code);
     while right - left < k {
-        let below = level_before(part, count, left, code);
-        let above = level_at(part, count, right, code);
         if below <= above {
             if level <= below {
                 return Run::Nothing;
             }
             reached = below;
             left -= 1;
+            below = level_before(part, count, left, code);
         } else {
             if level <= above {
                 return Run::Nothing;
             }
             reached = above;
             right += 1;
+            above = level_at(part, count, right, code);
         }
     }
     let first = reach_left(part, count, left, code, reached);
