@@ -72,6 +72,7 @@ dissolved σ f level code left g lo hi few arr = go (f .level) refl
 -- what the block of slot s leaves of itself, and what the words then say of it and of the blocks around it
 pub record LeftOver (σ : Setting) (after : List ℕ) (f : Frame) (way : List Frame) (s level code : ℕ) (es left : Placed) (free free′ : List ℕ) : Type 0 where
   pub few : size (forestOf left) < σ .k
+  pub some : 1 ≤ size (forestOf left)
   pub arranged : Arranged (σ .k) level code (code + 4 ^ level) (forestOf left)
   pub same-pixels : pixels (forestOf left) ≡ pixels (forestOf es)
   pub frames-stand : FramesStand (widthIn σ) after (f ∷ way) s level code
@@ -98,6 +99,7 @@ handed-up σ words after f way s level code es left free free′ h r lo hi =
         level-from = omega (arith, g .under);
         disturbed = dissolved σ f level code left g lo hi (r .few) (r .arranged);
         fits = omega (arith, r .few, σ .k-from, size-placed-join b (left ⧻ c), size-placed-join left c);
+        some = inr (omega (arith, r .some, size-placed-join b (left ⧻ c), size-placed-join left c));
         free-chain = r .free-chain;
         shared = shared-moves (slotsIn σ) (waySlots (f ∷ way) ++ (s ∷ slotsOf es)) free (waySlots way ++ (f .slot ∷ slotsOf (b ⧻ (left ⧻ c)))) free′ (h .shared) moved;
         pixels-are = plug-pixels way (f .slot) (f .level) (f .code) (b ⧻ (left ⧻ c)) (b ⧻ blockThen s level code left c) (place-pixels b left c s level code)
@@ -105,6 +107,7 @@ handed-up σ words after f way s level code es left free free′ h r lo hi =
       };
       says = r .frames-stand .1;
       was-fit = omega (arith, size-placed-join b (blockThen s level code nothing c));
+      settled = λ none. absurd (omega (arith, r .some));
     }
   where
     moved : (t : ℕ) → occurrences t ((waySlots way ++ (f .slot ∷ slotsOf (f .before ⧻ (left ⧻ f .after)))) ++ free′)

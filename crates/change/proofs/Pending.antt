@@ -58,6 +58,7 @@ pub record Around (σ : Setting) (words : List ℕ) (way : List Frame) (s level 
   pub level-from : 1 ≤ level
   pub disturbed : Disturbed (σ .k) (quarterLevel level) code (σ .x) (forestOf es)
   pub fits : size (forestOf es) ≤ 5 * (σ .k - 1)
+  pub some : (level ≡ σ .m) ⊎ (1 ≤ size (forestOf es))
   pub free-chain : FreeSlots (widthIn σ) words free
   pub shared : SlotsShared (slotsIn σ) (waySlots way ++ (s ∷ slotsOf es)) free
   pub pixels-are : pixels (forestOf (plug way s level code es)) ≡ σ .target
@@ -67,6 +68,8 @@ pub record Pending (σ : Setting) (words : List ℕ) (way : List Frame) (s level
   pub around : Around σ words way s level code (a ⧻ (inserted ⧻ b)) free
   pub says : SlotSays (slotPart (widthIn σ) words s) level code (a ⧻ (removed ⧻ b))
   pub was-fit : size (forestOf (a ⧻ (removed ⧻ b))) ≤ 4 * (σ .k - 1)
+  -- where nothing comes, the rest is right
+  pub settled : size (forestOf inserted) ≡ 0 → LocallyRight (σ .k) level code (forestOf (a ⧻ (inserted ⧻ b)))
 
 -- done: the slot says the new elements
 pub record Laid (σ : Setting) (words : List ℕ) (way : List Frame) (s level code : ℕ) (es : Placed) (free : List ℕ) : Type 0 where
@@ -109,6 +112,7 @@ module _ (σ : Setting) (words : List ℕ) (way : List Frame) (s level code : �
         level-from = h .level-from;
         disturbed = h .disturbed;
         fits = h .fits;
+        some = h .some;
         free-chain = free-kept (widthIn σ) words after free (word-in-front 8 7 words after (omega arith) (only .head)) (agree free free-elsewhere) (h .free-chain);
         shared = h .shared;
         pixels-are = h .pixels-are;

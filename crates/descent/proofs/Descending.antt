@@ -79,8 +79,8 @@ place-within part count code place true h = omega (arith, h .within)
 place-within part count code place false h = h .place-of .within
 
 -- a descent that says damaged stopped on no sound store
-pub stopped : {words : List ℕ} {layout : Layout} {order code : ℕ} {r : Located} → r .damaged ≡ true → NoSound words layout order code
-    → LocateMeets words layout order code r
+pub stopped : {words slots places : List ℕ} {layout : Layout} {order code : ℕ} {r : Located} → r .damaged ≡ true → NoSound words layout order code
+    → LocateMeets words layout order code slots places r
 stopped e never =
     record {
       bounds = λ f. zero-is-not-one (cc);
@@ -127,7 +127,7 @@ module _ {words : List ℕ} {layout : Layout} {order code : ℕ} {slots places :
     few-elements = omega (arith, header .laid, slot-long layout words slot fits (d .slot-below), fits .within .width-to)
 
     pub found-here : (place : ℕ) (marked : Bool) → 1 ≤ level → LookedHere (slotPart (layout .width) words slot) count code place marked
-        → LocateMeets words layout order code (record { damaged = false; marked = marked; slot = slot; level = level; block = block; place = place; depth = depth; slots = slots; places = places })
+        → LocateMeets words layout order code slots places (record { damaged = false; marked = marked; slot = slot; level = level; block = block; place = place; depth = depth })
     found-here place marked above h =
         record {
           bounds = λ e. record {

@@ -110,7 +110,7 @@ module _ (code : ℕ) where
       (rw joined (among-beside _ (f .level) (f .code) mid (c + 4 ^ level) (f .code + 4 ^ f .level) (forestOf (f .before)) (block level c (forestOf es) empty) (forestOf (f .after)) (suc opened) marked
       low (omega (arith, high .0)) (high .7) q (among-block level c (forestOf es) opened marked p q s))))
 
-module _ {words : List ℕ} {placed : Placed} {code : ℕ} {r : Located} (sound : Sound words placed) (h : LocatedIn words placed code r) where
+module _ {words slots places : List ℕ} {placed : Placed} {code : ℕ} {r : Located} (sound : Sound words placed) (h : LocatedIn words placed code slots places r) where
   among-located : CodeAmong code (forestOf placed) (suc (length (h .way) + 0)) (r .marked)
   among-located =
       subst (λ (t : Placed). CodeAmong code (forestOf t) (suc (length (h .way) + 0)) (r .marked)) (sym (h .whole))

@@ -32,12 +32,12 @@ pub record PlaceIn (k level from code to place : ℕ) (marked : Bool) (es : Plac
   pub is : (marked ≡ true → es ≡ before ⧻ pixelThen code after) × (marked ≡ false → es ≡ before ⧻ after)
 
 -- on a sound store: the block at the end of the way
-pub record LocatedIn (words : List ℕ) (placed : Placed) (code : ℕ) (r : Located) : Type 0 where
+pub record LocatedIn (words : List ℕ) (placed : Placed) (code : ℕ) (slots places : List ℕ) (r : Located) : Type 0 where
   pub way : List Frame
   pub es : Placed
   pub whole : placed ≡ plug way (r .slot) (r .level) (r .block) es
   pub depth : r .depth ≡ length way
-  pub names : PathNames (r .slots) (r .places) way
+  pub names : PathNames slots places way
   pub holds : (r .block ≤ code) × (code < r .block + 4 ^ r .level)
   pub place : PlaceIn (getD words 2 0) (r .level) (r .block) code (r .block + 4 ^ r .level) (r .place) (r .marked) es
 
@@ -47,21 +47,21 @@ CanEnter layout level slot inner true = (inner < level) × (slot < layout .slots
 CanEnter layout level slot inner false = (level ≤ inner) ⊎ (layout .slots ≤ slot)
 
 -- not damaged, and with each value in its field
-abbrev pub FoundAt : Bool → ℕ → ℕ → ℕ → ℕ → ℕ → List ℕ → List ℕ → Located → Type 0
-FoundAt marked slot level block place depth slots places r =
-    r ≡ record { damaged = false; marked = marked; slot = slot; level = level; block = block; place = place; depth = depth; slots = slots; places = places }
+abbrev pub FoundAt : Bool → ℕ → ℕ → ℕ → ℕ → ℕ → Located → Type 0
+FoundAt marked slot level block place depth r =
+    r ≡ record { damaged = false; marked = marked; slot = slot; level = level; block = block; place = place; depth = depth }
 
 -- on every store the numbers stay in bounds
-pub record LocatedBounds (slots order : ℕ) (r : Located) : Type 0 where
-  pub slot-below : r .slot < slots
+pub record LocatedBounds (layout : Layout) (order : ℕ) (slots : List ℕ) (r : Located) : Type 0 where
+  pub slot-below : r .slot < layout .slots
   pub level-from : 1 ≤ r .level
   pub deep : r .depth + r .level ≤ order
-  pub path-below : (i : ℕ) → i < r .depth → getD (r .slots) i 0 < slots
+  pub path-below : (i : ℕ) → i < r .depth → getD slots i 0 < layout .slots
   pub place-below : r .place ≤ 75
 
 -- never damaged on a sound store
-pub record LocateMeets (words : List ℕ) (layout : Layout) (order code : ℕ) (r : Located) : Type 0 where
-  pub bounds : r .damaged ≡ false → LocatedBounds (layout .slots) order r
+pub record LocateMeets (words : List ℕ) (layout : Layout) (order code : ℕ) (slots places : List ℕ) (r : Located) : Type 0 where
+  pub bounds : r .damaged ≡ false → LocatedBounds layout order slots r
   pub sound : (placed : Placed) → Sound words placed → layout ≡ layoutOf (sizesOf words) → order ≡ getD words 1 0 → code < 4 ^ order
-      → (r .damaged ≡ false) × LocatedIn words placed code r
+      → (r .damaged ≡ false) × LocatedIn words placed code slots places r
   pub closed : CannotOpen (layout .width) words 0 order 0 → r .damaged ≡ true

@@ -40,4 +40,4 @@ pub record InnerBlock (part : List ℕ) (count code place slot level inner : ℕ
 
 abbrev pub Looked : List ℕ → ℕ → ℕ → Ahead → Type 0
 Looked part count code (Here place marked) = LookedHere part count code place marked
-Looked part count code (Inner place slot level inner) = InnerBlock part count code place slot level inner
+Looked part count code (Inner e) = InnerBlock part count code (e .place) (e .slot) (e .level) (e .code)

@@ -16,16 +16,16 @@ use store::slots::wide;
 
 // What the elements of one block show of a code: it ends here, at a pixel of its own or between two elements, or in an inner block.
 pub enum Ahead {
-    Here {
-        place: usize,
-        marked: bool,
-    },
-    Inner {
-        place: usize,
-        slot: u32,
-        level: u32,
-        code: u32,
-    },
+    Here { place: usize, marked: bool },
+    Inner(Entry),
+}
+
+// An element that is a block: its place among the elements, and what it says of the block.
+pub struct Entry {
+    pub place: usize,
+    pub slot: u32,
+    pub level: u32,
+    pub code: u32,
 }
 
 // 01: anything that isn't a block ends the descent there.
@@ -59,15 +59,15 @@ pub fn look(part: &[u32], count: usize, code: u32) -> Ahead
     if level < morton::common_level(inner, code) {
         return between;
     }
-    Ahead::Inner {
+    Ahead::Inner(Entry {
         place: last,
         slot,
         level,
         code: inner,
-    }
+    })
 }
 
-// The smallest block that holds a code, with the slots of the blocks around it, the root's first.
+// The smallest block that holds a code, and where the code stands among its elements.
 pub struct Located {
     pub damaged: bool,
     pub marked: bool,
@@ -76,17 +76,20 @@ pub struct Located {
     pub block: u32,
     pub place: usize,
     pub depth: usize,
-    pub slots: [u32; 17],
-    pub places: [u32; 17],
 }
 
-// Goes down to the smallest block that holds the code; reads only.
-pub fn locate(store: &[u32], layout: Layout, order: u32, code: u32) -> Located
-    requires { ⌜ LayoutFits layout (now store) × (order ≤ 16) ⌝ }
-    ensures { λ r. ⌜ LocateMeets (now (store .entry)) layout order code r ⌝ }
+// Goes down to the smallest block that holds the code, and names the way, root first: each block's slot, and the place entered there.
+pub fn locate(
+    store: &[u32],
+    layout: Layout,
+    order: u32,
+    code: u32,
+    slots: &mut [u32; 17],
+    places: &mut [u32; 17],
+) -> Located
+    requires { ⌜ LayoutFits layout (now store) × (order ≤ 16) × (length (now slots) ≡ 17) × (length (now places) ≡ 17) ⌝ }
+    ensures { λ r. ⌜ LocateMeets (now (store .entry)) layout order code (now (slots .exit)) (now (places .exit)) r ⌝ }
 {
-    let mut slots = [0u32; 17];
-    let mut places = [0u32; 17];
     let mut depth: usize = 0;
     let mut slot: u32 = 0;
     let mut level = order;
@@ -94,31 +97,26 @@ pub fn locate(store: &[u32], layout: Layout, order: u32, code: u32) -> Located
     while 0 < level {
         let part = slot_part(store, layout, wide(slot));
         let Opening::Elements(count) = open_part(part, level, block) else {
-            return damaged_at(slots, places);
+            return damaged();
         };
         match look(part, count, code) {
             Ahead::Here { place, marked } => {
-                return found_at(marked, slot, level, block, place, depth, slots, places);
+                return found_at(marked, slot, level, block, place, depth);
             }
-            Ahead::Inner {
-                place,
-                slot: inner_slot,
-                level: inner_level,
-                code: inner_code,
-            } => {
-                if !can_enter(layout, level, inner_slot, inner_level) {
-                    return damaged_at(slots, places);
+            Ahead::Inner(inner) => {
+                if !can_enter(layout, level, inner.slot, inner.level) {
+                    return damaged();
                 }
                 slots[depth] = slot;
-                places[depth] = place as u32;
+                places[depth] = inner.place as u32;
                 depth += 1;
-                slot = inner_slot;
-                level = inner_level;
-                block = inner_code;
+                slot = inner.slot;
+                level = inner.level;
+                block = inner.code;
             }
         }
     }
-    damaged_at(slots, places)
+    damaged()
 }
 
 // A block is entered where its level is lower and its slot is one of the store's.
@@ -134,17 +132,8 @@ fn can_enter(layout: Layout, level: u32, slot: u32, inner: u32) -> bool
     true
 }
 
-fn found_at(
-    marked: bool,
-    slot: u32,
-    level: u32,
-    block: u32,
-    place: usize,
-    depth: usize,
-    slots: [u32; 17],
-    places: [u32; 17],
-) -> Located
-    ensures { λ r. ⌜ FoundAt marked slot level block place depth slots places r ⌝ }
+fn found_at(marked: bool, slot: u32, level: u32, block: u32, place: usize, depth: usize) -> Located
+    ensures { λ r. ⌜ FoundAt marked slot level block place depth r ⌝ }
 {
     Located {
         damaged: false,
@@ -154,12 +143,10 @@ fn found_at(
         block,
         place,
         depth,
-        slots,
-        places,
     }
 }
 
-fn damaged_at(slots: [u32; 17], places: [u32; 17]) -> Located
+fn damaged() -> Located
     ensures { λ r. ⌜ r .damaged ≡ true ⌝ }
 {
     Located {
@@ -170,7 +157,5 @@ fn damaged_at(slots: [u32; 17], places: [u32; 17]) -> Located
         block: 0,
         place: 0,
         depth: 0,
-        slots,
-        places,
     }
 }

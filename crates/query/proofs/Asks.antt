@@ -23,8 +23,8 @@ use Rattle.query.specs.declared.ask.Asked.{Asked}
 use Rattle.query.specs.declared.ask.Asked.the-variants.{Known, Damaged}
 use Rattle.query.specs.Asking.{AskAnswer}
 
-module _ (words : List ℕ) (code : ℕ) (sizes : Sizes) (layout : Layout) (r : Located) (usable : UsableStore words) (sizes-are : sizes ≡ sizesOf words) (laid : LaidOut sizes layout)
-    (on : code < 4 ^ sizes .order) (m : LocateMeets words layout (sizes .order) code r) where
+module _ (words : List ℕ) (code : ℕ) (sizes : Sizes) (layout : Layout) (slots places : List ℕ) (r : Located) (usable : UsableStore words) (sizes-are : sizes ≡ sizesOf words) (laid : LaidOut sizes layout)
+    (on : code < 4 ^ sizes .order) (m : LocateMeets words layout (sizes .order) code slots places r) where
   layout-is : layout ≡ layoutOf (sizesOf words)
   layout-is = laid .is ∙ ap layoutOf sizes-are
 

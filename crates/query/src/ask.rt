@@ -16,7 +16,10 @@ pub fn ask(store: &[u32], sizes: Sizes, code: u32) -> Asked
     requires { ⌜ (UsableStore (now store) × (sizes ≡ sizesOf (now store))) × (code < 4 ^ sizes .order) ⌝ }
     ensures { λ r. ⌜ AskAnswer (now (store .entry)) code r ⌝ }
 {
-    let located = locate(store, layout_of(sizes), sizes.order, code);
+    let layout = layout_of(sizes);
+    let mut slots = [0u32; 17];
+    let mut places = [0u32; 17];
+    let located = locate(store, layout, sizes.order, code, &mut slots, &mut places);
     if located.damaged {
         return Asked::Damaged;
     }

@@ -25,11 +25,12 @@ use Rattle.rewrite.specs.Rewrite.{CanHandUp, HandedUpAll}
 use Rattle.change.proofs.Frames.{FramesRight, frames-level}
 use Rattle.change.proofs.Pending.{Setting, widthIn, Laid}
 use Rattle.change.proofs.RunLaw.{FormedAt, formed-by}
+use Rattle.change.proofs.Completed.{Completed}
 use Rattle.step.specs.declared.Change.{Change}
 use Rattle.step.specs.declared.Placing.the-variants as placing
 use Rattle.step.specs.declared.Stepped.{Stepped}
 use Rattle.step.specs.declared.Stepped.the-variants.{Done, Up, Damaged}
-use Rattle.step.specs.Step.{Kept, CanPut, PutMeets, InSetting, SteppedRight, UpTo16, CanRegroup, RegroupMeets, StepMeets}
+use Rattle.step.specs.Step.{Kept, CanPut, PutMeets, InSetting, SteppedRight, UpTo16, CanRegroup, RegroupMeets, SettleMeets, StepMeets}
 use Rattle.step.proofs.RegroupEnds.{kept-same, kept-but-slot, front-kept}
 use Rattle.step.proofs.StepLaws.{can-splice, laid-by-splice, right-as-it-is, done-as-it-is, up-with-all}
 
@@ -156,10 +157,11 @@ never-refused {change} {root} {slot} {place} {removed} {inserted} {before} {afte
 module _ {change : Change} {root : Bool} {slot place removed inserted count : ℕ} {before mid scratch : List ℕ}
     (can : CanPut (change .layout) before slot place removed inserted scratch)
     (put : PutMeets (change .layout) slot place removed inserted scratch before mid (placing.Elements count)) where
-  -- what follows from the elements laid is what the step comes to
+  -- what follows from the elements laid, right where nothing came, is what the step comes to
   stepped : {after scratch′ : List ℕ} {r : Stepped} → Kept (change .layout) mid after → UpTo16 r → length scratch′ ≡ length scratch
       → ((σ : Setting) (way : List Frame) (level code : ℕ) (es : Placed) (free : List ℕ) → InSetting σ change root way → Laid σ mid way slot level code es free
-      → SteppedRight σ after scratch′ way slot r) → StepMeets change root slot place removed inserted before after scratch scratch′ r
+      → (inserted ≡ 0 → LocallyRight (σ .k) level code (forestOf es)) → SteppedRight σ after scratch′ way slot r)
+      → StepMeets change root slot place removed inserted before after scratch scratch′ r
   stepped kept bounds long right = record {
     kept = kept-then (kept-but-slot (change .layout) slot before mid (can .slot-below) (put .2 .only)) kept;
     bounds = bounds;
@@ -167,13 +169,33 @@ module _ {change : Change} {root : Bool} {slot place removed inserted count : �
     right = λ σ way level code a old new b free i p o n w h.
         let done = subst (λ (l : Layout). PutMeets l slot place removed inserted scratch before mid (placing.Elements count)) (i .layout-is) put in
         right σ way level code (a ⧻ (new ⧻ b)) free i
-        (laid-by-splice σ before way slot level code a old new b free place removed inserted scratch h p o n mid w (done .1) (done .2));
+        (laid-by-splice σ before way slot level code a old new b free place removed inserted scratch h p o n mid w (done .1) (done .2)) (λ none. h .settled (n ∙ none));
   }
+
+  -- where the elements laid are right, the step ends as it settles
+  module _ (right-then : (σ : Setting) (way : List Frame) (level code : ℕ) (es : Placed) (free : List ℕ) → InSetting σ change root way → Laid σ mid way slot level code es free
+      → (inserted ≡ 0 → LocallyRight (σ .k) level code (forestOf es)) → LocallyRight (σ .k) level code (forestOf es)) where
+    settles : {after scratch′ : List ℕ} (r : Stepped) → change .k ≤ 16 → SettleMeets change root slot count mid after scratch scratch′ r
+        → StepMeets change root slot place removed inserted before after scratch scratch′ r
+    settles Done k-to (e, same, scratch-same) = stepped (kept-same (change .layout) mid _ same) tt (ap length scratch-same)
+        (λ σ way level code es free i h s. subst (Completed σ) (sym same) (done-as-it-is σ mid way slot level code es free h (right-then σ way level code es free i h s)
+        (enough σ change root way level code (size (forestOf es)) i (h .around .frames-right)
+        (subst (λ (n : ℕ). (root ≡ true) ⊎ (change .k ≤ n)) (sym (count-then can put) ∙ count-says i h) e))))
+    settles {after} {scratch′} (Up n) k-to (e, few, u) =
+        stepped (kept-by-release (can .slot-below) (u .freed)) (omega (arith, u .rest-is, count-then can put)) (u .long)
+        (λ σ way level code es free i h s. up-below-root σ mid way slot level code es free after scratch scratch′ n (i .root-is .1 e) h (right-then σ way level code es free i h s)
+        (omega (arith, count-then can put, count-says i h, i .k-is)) (subst (λ (l : Layout). HandedUpAll l slot mid after scratch scratch′ n) (i .layout-is) u))
+    settles Damaged k-to bad = absurd bad
+
+  -- where nothing came, the elements are right
+  pub settles-empty : {after scratch′ : List ℕ} {r : Stepped} → inserted ≡ 0 → change .k ≤ 16 → SettleMeets change root slot count mid after scratch scratch′ r
+      → StepMeets change root slot place removed inserted before after scratch scratch′ r
+  settles-empty {r = r} none = settles (λ σ way level code es free i h s. s none) r
 
   module _ {part : List ℕ} (lent : part ≡ slotPart (change .layout .width) mid slot) where
     -- nor does a slot say a level above 16
     pub never-too-high : 16 < getD part 0 0 → StepMeets change root slot place removed inserted before mid scratch scratch Damaged
-    never-too-high h = stepped (kept-same (change .layout) mid mid refl) tt refl (λ σ way level code es free i l. omega (arith, ap levelWord lent, level-up-to i l))
+    never-too-high h = stepped (kept-same (change .layout) mid mid refl) tt refl (λ σ way level code es free i l s. omega (arith, ap levelWord lent, level-up-to i l))
 
     -- what the search found, in each setting
     found : {σ : Setting} {way : List Frame} {level code : ℕ} {es : Placed} {free : List ℕ} (r : Run) → InSetting σ change root way → Laid σ mid way slot level code es free
@@ -182,25 +204,11 @@ module _ {change : Change} {root : Bool} {slot place removed inserted count : �
     found r i h =
         found-in r (lent ∙ same-part i h) (sym (count-then can put) ∙ count-says i h) (ap levelWord lent ∙ level-says i h) (i .k-is) (i .x-is)
 
-    module _ (none : RunMeets part count (getD part 0 0) (change .k) (change .code) Nothing) where
-      right-then : {σ : Setting} {way : List Frame} {level code : ℕ} {es : Placed} {free : List ℕ} → InSetting σ change root way → Laid σ mid way slot level code es free
-          → LocallyRight (σ .k) level code (forestOf es)
-      right-then {σ} {way} {level} {code} {es} {free} i h = right-as-it-is σ mid way slot level code es free h (found Nothing i h none (ascends i h))
-
-      -- no run, and enough elements: the change is at rest
-      pub done-then : (root ≡ true) ⊎ (change .k ≤ count) → StepMeets change root slot place removed inserted before mid scratch scratch Done
-      done-then e = stepped (kept-same (change .layout) mid mid refl) tt refl
-          (λ σ way level code es free i h. done-as-it-is σ mid way slot level code es free h (right-then i h)
-          (enough σ change root way level code (size (forestOf es)) i (h .around .frames-right)
-          (subst (λ (n : ℕ). (root ≡ true) ⊎ (change .k ≤ n)) (sym (count-then can put) ∙ count-says i h) e)))
-
-      -- no run, and too few elements: they are pending in the block around
-      pub up-then : {after scratch′ : List ℕ} {n : ℕ} → root ≡ false → count < change .k → change .k ≤ 16 → HandedUpAll (change .layout) slot mid after scratch scratch′ n
-          → StepMeets change root slot place removed inserted before after scratch scratch′ (Up n)
-      up-then {after} {scratch′} {n} e few k-to u =
-          stepped (kept-by-release (can .slot-below) (u .freed)) (omega (arith, u .rest-is, count-then can put)) (u .long)
-          (λ σ way level code es free i h. up-below-root σ mid way slot level code es free after scratch scratch′ n (i .root-is .1 e) h (right-then i h)
-          (omega (arith, count-then can put, count-says i h, i .k-is)) (subst (λ (l : Layout). HandedUpAll l slot mid after scratch scratch′ n) (i .layout-is) u))
+    -- no run: they are right too
+    pub settles-without-run : {after scratch′ : List ℕ} {r : Stepped} → RunMeets part count (getD part 0 0) (change .k) (change .code) Nothing → change .k ≤ 16
+        → SettleMeets change root slot count mid after scratch scratch′ r → StepMeets change root slot place removed inserted before after scratch scratch′ r
+    settles-without-run {r = r} none =
+        settles (λ σ way level code es free i h s. right-as-it-is σ mid way slot level code es free h (found Nothing i h none (ascends i h))) r
 
     -- a run: regrouping goes on with it
     pub formed-then : {after scratch′ : List ℕ} {j first n : ℕ} {r : Stepped}
@@ -208,5 +216,5 @@ module _ {change : Change} {root : Bool} {slot place removed inserted count : �
         → RegroupMeets change root slot j first n mid after scratch scratch′ r → StepMeets change root slot place removed inserted before after scratch scratch′ r
     formed-then {j = j} {first = first} {n = n} run u =
         stepped (u .kept) (u .bounds) (u .scratch-long)
-        (λ σ way level code es free i h. u .right σ way level code es free i h
+        (λ σ way level code es free i h s. u .right σ way level code es free i h
         (run-formed σ mid way slot level code es free j first n h (ascends i h) (found (Formed j first n) i h run)))

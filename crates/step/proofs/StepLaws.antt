@@ -30,7 +30,7 @@ use Rattle.descent.specs.Way.{Frame, plug}
 use Rattle.runs.specs.Run.{codesFrom, countNear}
 use Rattle.rewrite.specs.Rewrite.{SlotNow, SplicedSlot, blockWords, runWords, withBlock, HandedUpBlock, HandedUpAll, BlockFormed}
 use Rattle.rewrite.proofs.SlotNows.{says-now, now-says, spliced-now}
-use Rattle.change.proofs.Frames.{FramesRight}
+use Rattle.change.proofs.Frames.{FramesRight, frames-level}
 use Rattle.change.proofs.FramesStand.{FramesStand, frames-kept}
 use Rattle.change.proofs.SlotCounts.{waySlots, shared-moves}
 use Rattle.change.proofs.RunLaw.{FormedAt, no-run}
@@ -126,6 +126,11 @@ module _ (σ : Setting) (words : List ℕ) (way : List Frame) (s level code : �
   agree after others l e = every-map (λ t. t ≡ s → ⊥) (λ t. slotPart (widthIn σ) words t ≡ slotPart (widthIn σ) after t) l (λ t ne. sym (others t ne)) e
 
 module _ (σ : Setting) (words : List ℕ) (f : Frame) (way : List Frame) (s level code : ℕ) (es : Placed) (free : List ℕ) (h : Laid σ words (f ∷ way) s level code es free) where
+  -- it is not the root, so it has an element
+  has-some : (level ≡ σ .m) ⊎ (1 ≤ size (forestOf es)) → 1 ≤ size (forestOf es)
+  has-some (inl e) = let r = h .around .frames-right in absurd (omega (arith, frames-level (σ .k) (σ .m) way (f .level) (f .code) (r .1), r .0 .under))
+  has-some (inr n) = n
+
   -- an underfull block that forms none
   pub up-with-all : (after scratch scratch′ : List ℕ) (r : ℕ) → LocallyRight (σ .k) level code (forestOf es) → size (forestOf es) < σ .k
       → HandedUpAll (σ .layout) s words after scratch scratch′ r → PendingAbove σ after scratch′ f way s r
@@ -143,6 +148,7 @@ module _ (σ : Setting) (words : List ℕ) (f : Frame) (way : List Frame) (s lev
         pending = handed-up σ words after f way s level code es es free (s ∷ free) o
             (record {
               few = few;
+              some = has-some (o .some);
               arranged = right .arranged;
               same-pixels = refl;
               frames-stand = frames-kept (widthIn σ) words after (f ∷ way) s level code (same (waySlots (f ∷ way)) (way-elsewhere σ words (f ∷ way) s level code es free o)) (o .frames-stand);
@@ -197,6 +203,7 @@ module _ (σ : Setting) (words : List ℕ) (f : Frame) (way : List Frame) (s lev
         pending = handed-up σ words after f way s level code es left free free o
             (record {
               few = omega arith;
+              some = omega (arith, ls);
               arranged = subst (Arranged (σ .k) level code (code + 4 ^ level)) (sym (forest-join (g .before) (blockThen s j d (g .run) (g .after)))) (g .right .arranged);
               same-pixels = ap pixels (forest-join (g .before) (blockThen s j d (g .run) (g .after)))
                   ∙ pixels-join (forestOf (g .before)) (block j d (forestOf (g .run)) (forestOf (g .after))) ∙ sym (pixels-of g);

@@ -2,6 +2,7 @@
 use Prim.Native.Nat.{ℕ, _+_, _-_, _*_, _≤_, _<_}
 use mathlib.Core.Path.{_≡_}
 use mathlib.Core.Bool.{Bool, true, false}
+use mathlib.Core.Logic.{_⊎_}
 use mathlib.Core.List.{List, [], _∷_}
 use lib.ListN.{length, take, drop}
 use Rattle.pktree.specs.Elements.{size}
@@ -12,7 +13,7 @@ use Rattle.store.specs.Splice.{CanSplice}
 use Rattle.store.specs.Placed.{Placed, nothing, blockThen, forestOf}
 use Rattle.store.proofs.Standing.{elementWords}
 use Rattle.descent.specs.Way.{Frame}
-use Rattle.rewrite.specs.Rewrite.{SplicedSlot}
+use Rattle.rewrite.specs.Rewrite.{SplicedSlot, HandedUpAll}
 use Rattle.change.proofs.Pending.{Setting, Pending, Laid}
 use Rattle.change.proofs.RunLaw.{FormedAt}
 use Rattle.change.proofs.Completed.{Completed}
@@ -89,6 +90,12 @@ pub record RegroupMeets (change : Change) (root : Bool) (slot level first size :
   pub scratch-long : length scratch′ ≡ length scratch
   pub right : (σ : Setting) (way : List Frame) (outer code : ℕ) (es : Placed) (free : List ℕ) → InSetting σ change root way
       → Laid σ before way slot outer code es free → FormedAt (σ .k) outer code (σ .x) level first size es → SteppedRight σ after scratch′ way slot r
+
+-- the block is the root or has k elements, and all is as it was; or all its elements go up
+abbrev pub SettleMeets : Change → Bool → ℕ → ℕ → List ℕ → List ℕ → List ℕ → List ℕ → Stepped → Type 0
+SettleMeets change root slot count before after scratch scratch′ Done = ((root ≡ true) ⊎ (change .k ≤ count)) × (after ≡ before) × (scratch′ ≡ scratch)
+SettleMeets change root slot count before after scratch scratch′ (Up n) = (root ≡ false) × (count < change .k) × HandedUpAll (change .layout) slot before after scratch scratch′ n
+SettleMeets change root slot count before after scratch scratch′ Damaged = ⊥
 
 pub record StepMeets (change : Change) (root : Bool) (slot place removed inserted : ℕ) (before after scratch scratch′ : List ℕ) (r : Stepped) : Type 0 where
   pub kept : Kept (change .layout) before after

@@ -1,8 +1,9 @@
 // One block of the path of a change: its elements change, a block is formed in it, or its elements go up.
-ghost use Prim.Native.Nat.{_≤_};
+ghost use Prim.Native.Nat.{_≤_, _<_};
 ghost use mathlib.Core.Path.{_≡_};
 ghost use Rattle.pktree.proofs.Alignment.{blockCode};
-ghost use Rattle.step.specs.Step.{CanPut, PutMeets, CanRegroup, RegroupMeets, StepMeets};
+ghost use Rattle.rewrite.specs.Rewrite.{CanHandUp};
+ghost use Rattle.step.specs.Step.{CanPut, PutMeets, CanRegroup, RegroupMeets, SettleMeets, StepMeets};
 use rewrite::Forming;
 use rewrite::form_block;
 use rewrite::hand_up_all;
@@ -111,7 +112,29 @@ pub fn regroup(
     }
 }
 
+// No block is to be formed: the change is at rest, or the elements of an underfull block go up.
+pub fn settle(
+    store: &mut [u32],
+    change: Change,
+    root: bool,
+    slot: usize,
+    count: usize,
+    scratch: &mut [u32],
+) -> Stepped
+    requires { ⌜ (count < change .k → CanHandUp (change .layout) (now store) slot 0 0 0 (now scratch)) ⌝ }
+    ensures { λ r. ⌜ SettleMeets change root slot count (now (store .entry)) (now (store .exit)) (now (scratch .entry)) (now (scratch .exit)) r ⌝ }
+{
+    if root {
+        return Stepped::Done;
+    }
+    if change.k <= count {
+        return Stepped::Done;
+    }
+    Stepped::Up(hand_up_all(store, change.layout, slot, scratch))
+}
+
 // One block of the path: its elements change, a block is formed in it where one must be, and an underfull block hands its elements up.
+// Where nothing comes, as in a block that loses a pixel, none is formed.
 pub fn step(
     store: &mut [u32],
     change: Change,
@@ -130,6 +153,9 @@ pub fn step(
     else {
         return Stepped::Damaged;
     };
+    if inserted == 0 {
+        return settle(store, change, root, slot, count, scratch);
+    }
     let part = slot_part(store, layout, slot);
     let level = part[0];
     if 16 < level {
@@ -137,15 +163,7 @@ pub fn step(
     }
     let near = place + inserted;
     match find_run(part, count, near, level, change.k, change.code) {
-        Run::Nothing => {
-            if root {
-                return Stepped::Done;
-            }
-            if change.k <= count {
-                return Stepped::Done;
-            }
-            Stepped::Up(hand_up_all(store, layout, slot, scratch))
-        }
+        Run::Nothing => settle(store, change, root, slot, count, scratch),
         Run::Formed {
             level: inner,
             first,

@@ -31,22 +31,19 @@ pub fn element_at(part: &[u32], i: usize) -> Element
     }
 }
 
-// How many of the first elements have a code up to the given one, where they ascend: a binary search.
+// How many of the first elements have a code up to the given one, where they ascend: from the last one back, since a slot has few.
 pub fn find_place(part: &[u32], count: usize, code: u32) -> usize
     requires { ⌜ (8 + 2 * count ≤ length (now part)) × (count ≤ 100) ⌝ }
     ensures { λ r. ⌜ PlaceOf (now (part .entry)) count code r ⌝ }
 {
-    let mut low: usize = 0;
-    let mut high = count;
-    while low < high {
-        let middle = (low + high) / 2;
-        if part[8 + 2 * middle] <= code {
-            low = middle + 1;
-        } else {
-            high = middle;
+    let mut place = count;
+    while 0 < place {
+        if part[6 + 2 * place] <= code {
+            return place;
         }
+        place -= 1;
     }
-    low
+    place
 }
 
 pub fn copy_words(target: &mut [u32], at: usize, source: &[u32], count: usize)

@@ -3,6 +3,7 @@ use Prim.Native.Nat.{ℕ, zero, suc, _+_, _-_, _*_, _/_, _^_, _≤_, _<_}
 use native.Mathlib.Omega.{arith}
 use mathlib.Core.Path.{_≡_, refl, ap, subst, sym, _∙_}
 use mathlib.Core.Bool.{true, false}
+use mathlib.Core.Logic.{_⊎_, inl, inr}
 use mathlib.Core.List.{List, [], _∷_, _++_, append-assoc}
 use lib.ListN.{length, getD, take, length-append}
 use Rattle.pktree.specs.Panel.{Aligned}
@@ -33,8 +34,9 @@ use Rattle.update.specs.Propagate.{PendingAt}
 
 module _ (k c x : ℕ) (h : 2 ≤ k) (above : c ≤ x) where
   -- elements that are right are right but perhaps around x
-  disturbed-if-right : (l : ℕ) (es : Forest) → Aligned (suc l) c → x < c + 4 ^ suc l → LocallyRight k (suc l) c es → Disturbed k l c x es
-  disturbed-if-right l es aligned below r =
+  disturbed-if-right : (n : ℕ) (es : Forest) → 1 ≤ n → Aligned n c → x < c + 4 ^ n → LocallyRight k n c es → Disturbed k (quarterLevel n) c x es
+  disturbed-if-right zero es one aligned below r = absurd (omega arith)
+  disturbed-if-right (suc l) es one aligned below r =
       record {
         aligned = aligned;
         above = above;
@@ -50,11 +52,10 @@ module _ (k c x : ℕ) (h : 2 ≤ k) (above : c ≤ x) where
   put-disturbs zero a b one aligned below r u v = absurd (omega arith)
   put-disturbs (suc l) a b one aligned below r u v = put-in k l c x h aligned above below (a ⧺ b) a b refl r u v
 
-  take-disturbs : (n : ℕ) (a b : Forest) → 1 ≤ n → Aligned n c → x < c + 4 ^ n → LocallyRight k n c (a ⧺ pixel x b) → Arranged k n c x a → Arranged k n (suc x) (c + 4 ^ n) b
-      → Disturbed k (quarterLevel n) c x (a ⧺ b)
-  take-disturbs zero a b one aligned below r u v = absurd (omega arith)
-  take-disturbs (suc l) a b one aligned below r u v =
-      disturbed-if-right l (a ⧺ b) aligned below (take-out k l c x h aligned above below (a ⧺ pixel x b) a b refl r u v)
+  taken-right : (n : ℕ) (a b : Forest) → 1 ≤ n → Aligned n c → x < c + 4 ^ n → LocallyRight k n c (a ⧺ pixel x b) → Arranged k n c x a → Arranged k n (suc x) (c + 4 ^ n) b
+      → LocallyRight k n c (a ⧺ b)
+  taken-right zero a b one aligned below r u v = absurd (omega arith)
+  taken-right (suc l) a b one aligned below r u v = take-out k l c x h aligned above below (a ⧺ pixel x b) a b refl r u v
 
 -- the pixels of a plugged tree: those inside stand between those before the way's end and those after it
 plug-around : (way : List Frame) → (l : List ℕ) × (r : List ℕ) × ((s i d : ℕ) (es : Placed) → pixels (forestOf (plug way s i d es)) ≡ l ++ (pixels (forestOf es) ++ r))
@@ -125,15 +126,15 @@ same-slots code a b old new o n =
     ∙ sym (slots-join a (old ⧻ b))
 
 -- the change is pending: where the pixels of `old` stood among those of the set, those of `new` are to stand
-pub record Begins (words : List ℕ) (usable : UsableStore words) (set : List ℕ) (code : ℕ) (located : Located) (old new : Placed) : Type 0 where
+pub record Begins (words : List ℕ) (usable : UsableStore words) (set : List ℕ) (code : ℕ) (slots places : List ℕ) (located : Located) (old new : Placed) : Type 0 where
   pub left : List ℕ
   pub right : List ℕ
   pub set-was : set ≡ left ++ (pixels (forestOf old) ++ right)
   pub few : length (left ++ (pixels (forestOf new) ++ right)) ≤ getD words 3 0
-  pub pending : PendingAt (settingOf words usable code (left ++ (pixels (forestOf new) ++ right)) few) words (located .slots) (located .places) (located .depth) (located .slot) (located .place)
+  pub pending : PendingAt (settingOf words usable code (left ++ (pixels (forestOf new) ++ right)) few) words slots places (located .depth) (located .slot) (located .place)
       (size (forestOf old)) (size (forestOf new)) (code ∷ 0 ∷ [])
 
-module _ (words : List ℕ) (placed : Placed) (sound : Sound words placed) (code : ℕ) (located : Located) (h : LocatedIn words placed code located) where
+module _ (words : List ℕ) (placed : Placed) (sound : Sound words placed) (code : ℕ) {slots places : List ℕ} (located : Located) (h : LocatedIn words placed code slots places located) where
   abbrev k : ℕ
   k = getD words 2 0
 
@@ -151,9 +152,10 @@ module _ (words : List ℕ) (placed : Placed) (sound : Sound words placed) (code
 
   begins : (old new : Placed) → AtMostPixel code old → AtMostPixel code new → h .es ≡ a ⧻ (old ⧻ b)
       → Disturbed k (quarterLevel (located .level)) (located .block) code (forestOf (a ⧻ (new ⧻ b)))
+      → (size (forestOf new) ≡ 0 → LocallyRight k (located .level) (located .block) (forestOf (a ⧻ (new ⧻ b))))
       → length (pixels (forestOf placed)) + length (pixels (forestOf new)) ≤ length (pixels (forestOf old)) + getD words 3 0
-      → Begins words (sound .usable) (pixels (forestOf placed)) code located old new
-  begins old new o n e disturbed room =
+      → Begins words (sound .usable) (pixels (forestOf placed)) code slots places located old new
+  begins old new o n e disturbed settled room =
       let (l, r, pix) = between-pixels (h .way) a b in
       let target : List ℕ = l ++ (pixels (forestOf new) ++ r) in
       let whole : placed ≡ plug (h .way) (located .slot) (located .level) (located .block) (a ⧻ (old ⧻ b)) =
@@ -206,6 +208,7 @@ module _ (words : List ℕ) (placed : Placed) (sound : Sound words placed) (code
                 size-placed-join a (old ⧻ b),
                 size-placed-join old b,
               );
+              some = some-left (there .enough);
               free-chain = sound .chain;
               shared = shared-moves (slotCount k (getD words 3 0)) (slotsOf placed) (sound .free) (waySlots (h .way) ++ (located .slot ∷ slotsOf (a ⧻ (new ⧻ b)))) (sound .free) (sound .shared)
                   (λ t. omega (
@@ -221,27 +224,47 @@ module _ (words : List ℕ) (placed : Placed) (sound : Sound words placed) (code
             };
             says = subst (SlotSays (slotPart width words (located .slot)) (located .level) (located .block)) e (there .view .says);
             was-fit = fit;
+            settled = settled;
           };
         };
       }
+    where
+      some-left : (located .level ≡ getD words 1 0) ⊎ (k ≤ size (forestOf (h .es))) → (located .level ≡ getD words 1 0) ⊎ (1 ≤ size (forestOf (a ⧻ (new ⧻ b))))
+      some-left (inl q) = inl q
+      some-left (inr q) =
+          inr (omega (
+            arith,
+            sound .usable .valid .panel .k-from,
+            o .one,
+            ap (λ (t : Placed). size (forestOf t)) e,
+            size-placed-join a (new ⧻ b),
+            size-placed-join new b,
+            size-placed-join a (old ⧻ b),
+            size-placed-join old b,
+          ))
 
   -- the pixel is to be put in, with room for it
   pub mark-begins : located .marked ≡ false → length (pixels (forestOf placed)) < getD words 3 0
-      → Begins words (sound .usable) (pixels (forestOf placed)) code located nothing (pixelThen code nothing)
+      → Begins words (sound .usable) (pixels (forestOf placed)) code slots places located nothing (pixelThen code nothing)
   mark-begins out room =
       let e : h .es ≡ a ⧻ b = h .place .is .1 out in
       begins nothing (pixelThen code nothing) (no-pixel code) (one-pixel code) e
       (rw (forest-join a (pixelThen code b)) (put-disturbs k (located .block) code (sound .usable .valid .panel .k-from) (h .holds .0) (located .level) (forestOf a) (forestOf b)
       (there .view .level-from) (there .view .aligned) (h .holds .1) (subst (LocallyRight k (located .level) (located .block)) (ap forestOf e ∙ forest-join a b) (there .view .right))
       (h .place .below) (h .place .above)))
+      (λ none. absurd (omega arith))
       (omega arith)
 
   -- the pixel is to be taken out
-  pub clear-begins : located .marked ≡ true → Begins words (sound .usable) (pixels (forestOf placed)) code located (pixelThen code nothing) nothing
+  pub clear-begins : located .marked ≡ true → Begins words (sound .usable) (pixels (forestOf placed)) code slots places located (pixelThen code nothing) nothing
   clear-begins in-set =
       let e : h .es ≡ a ⧻ pixelThen code b = h .place .is .0 in-set in
-      begins (pixelThen code nothing) nothing (one-pixel code) (no-pixel code) e
-      (rw (forest-join a b) (take-disturbs k (located .block) code (sound .usable .valid .panel .k-from) (h .holds .0) (located .level) (forestOf a) (forestOf b)
+      let right : LocallyRight k (located .level) (located .block) (forestOf (a ⧻ b)) =
+      rw (forest-join a b) (taken-right k (located .block) code (sound .usable .valid .panel .k-from) (h .holds .0) (located .level) (forestOf a) (forestOf b)
       (there .view .level-from) (there .view .aligned) (h .holds .1) (subst (LocallyRight k (located .level) (located .block)) (ap forestOf e ∙ forest-join a (pixelThen code b)) (there .view .right))
-      (h .place .below) (h .place .above)))
+      (h .place .below) (h .place .above)) in
+      begins (pixelThen code nothing) nothing (one-pixel code) (no-pixel code) e
+      (disturbed-if-right k (located .block) code (sound .usable .valid .panel .k-from) (h .holds .0) (located .level) (forestOf (a ⧻ b))
+      (there .view .level-from) (there .view .aligned) (h .holds .1) right)
+      (λ none. right)
       (omega (arith, sound .fits))

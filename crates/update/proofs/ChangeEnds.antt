@@ -101,14 +101,14 @@ module _ (before mid : List ℕ) (usable : UsableStore before) (code : ℕ) (tar
         }
 
 -- what is known once the code is looked up in a store to which refusal 3 does not apply
-pub record LookedUp (before : List ℕ) (sizes : Sizes) (layout : Layout) (code : ℕ) (located : Located) : Type 0 where
+pub record LookedUp (before : List ℕ) (sizes : Sizes) (layout : Layout) (code : ℕ) (slots places : List ℕ) (located : Located) : Type 0 where
   pub usable : UsableStore before
   pub sizes-are : sizes ≡ sizesOf before
   pub on-panel : code < 4 ^ sizes .order
   pub laid : LaidOut sizes layout
-  pub meets : LocateMeets before layout (sizes .order) code located
+  pub meets : LocateMeets before layout (sizes .order) code slots places located
 
-module _ {before : List ℕ} {sizes : Sizes} {layout : Layout} {code : ℕ} {located : Located} (u : LookedUp before sizes layout code located) where
+module _ {before slots places : List ℕ} {sizes : Sizes} {layout : Layout} {code : ℕ} {located : Located} (u : LookedUp before sizes layout code slots places located) where
   layout-is : layout ≡ layoutOf (sizesOf before)
   layout-is = u .laid .is ∙ ap layoutOf (u .sizes-are)
 
@@ -119,7 +119,7 @@ module _ {before : List ℕ} {sizes : Sizes} {layout : Layout} {code : ℕ} {loc
   most-is = ap (λ (z : Sizes). z .most) (u .sizes-are)
 
   module _ (was : List ℕ) (h : Holds before was) where
-    found : (located .damaged ≡ false) × LocatedIn before (h .placed) code located
+    found : (located .damaged ≡ false) × LocatedIn before (h .placed) code slots places located
     found = u .meets .sound (h .placed) (h .sound) layout-is order-is (u .on-panel)
 
     marked-is : member was code ≡ located .marked
@@ -190,7 +190,7 @@ module _ {before : List ℕ} {sizes : Sizes} {layout : Layout} {code : ℕ} {loc
     change = record { layout = layout; k = k; code = code }
 
     -- the numbers are in bounds
-    pub can-propagate : {removed inserted : ℕ} → located .damaged ≡ false → removed ≤ 1 → inserted ≤ 1 → CanPropagate change before located removed inserted
+    pub can-propagate : {removed inserted : ℕ} → located .damaged ≡ false → removed ≤ 1 → inserted ≤ 1 → CanPropagate change before located slots removed inserted
     can-propagate whole r i =
         let b = u .meets .bounds whole in
         let v = u .usable .valid .panel in
@@ -208,8 +208,8 @@ module _ {before : List ℕ} {sizes : Sizes} {layout : Layout} {code : ℕ} {loc
         }
 
     -- what propagating leaves of a change that began, with the count of the set to come
-    completed-end : (old new : Placed) {mid : List ℕ} {r : Bool} (was : List ℕ) (h : Holds before was) → PropagateMeets change located (size (forestOf old)) (size (forestOf new)) before mid r
-        → (b : Begins before (h .sound .usable) (pixels (forestOf (h .placed))) code located old new) → (count : ℕ) → count ≡ length (b .left ++ (pixels (forestOf new) ++ b .right))
+    completed-end : (old new : Placed) {mid : List ℕ} {r : Bool} (was : List ℕ) (h : Holds before was) → PropagateMeets change located slots places (size (forestOf old)) (size (forestOf new)) before mid r
+        → (b : Begins before (h .sound .usable) (pixels (forestOf (h .placed))) code slots places located old new) → (count : ℕ) → count ≡ length (b .left ++ (pixels (forestOf new) ++ b .right))
         → (r ≡ true) × Holds (set mid 6 count) (b .left ++ (pixels (forestOf new) ++ b .right)) × (sizesOf (set mid 6 count) ≡ sizesOf before)
     completed-end old new {mid} was h s b count n =
         let target : List ℕ = b .left ++ (pixels (forestOf new) ++ b .right) in
@@ -218,7 +218,7 @@ module _ {before : List ℕ} {sizes : Sizes} {layout : Layout} {code : ℕ} {loc
         (record { layout-is = layout-is; k-is = k-is ∙ ap (λ (z : Sizes). z .k) (u .sizes-are); x-is = refl }) (b .pending) in
         rw n (told, holds-target before mid (h .sound .usable) code target (b .few) kept rest, sizes-stay before mid (h .sound .usable) code target (b .few) kept)
 
-    mark-propagates : {mid : List ℕ} {r : Bool} → PropagateMeets change located 0 1 before mid r → located .marked ≡ false → getD before 6 0 < sizes .most → (was : List ℕ) → Holds before was
+    mark-propagates : {mid : List ℕ} {r : Bool} → PropagateMeets change located slots places 0 1 before mid r → located .marked ≡ false → getD before 6 0 < sizes .most → (was : List ℕ) → Holds before was
         → (r ≡ true) × Holds (set mid 6 (getD before 6 0 + 1)) (added code was) × (sizesOf (set mid 6 (getD before 6 0 + 1)) ≡ sizesOf before)
     mark-propagates {mid} s out room was h =
         let b = mark-begins before (h .placed) (h .sound) code located (found was h .1) out (omega (arith, h .sound .counted, most-is)) in
@@ -228,7 +228,7 @@ module _ {before : List ℕ} {sizes : Sizes} {layout : Layout} {code : ℕ} {loc
         sym (added-at-place code 0 (b .left) (b .right) (held-is-set _ _ holds .ascending)) ∙ ap (added code) (sym (b .set-was) ∙ h .set-is) in
         (told, subst (Holds (set mid 6 (getD before 6 0 + 1))) set-is holds, same)
 
-    clear-propagates : {mid : List ℕ} {r : Bool} → PropagateMeets change located 1 0 before mid r → located .marked ≡ true → (was : List ℕ) → Holds before was
+    clear-propagates : {mid : List ℕ} {r : Bool} → PropagateMeets change located slots places 1 0 before mid r → located .marked ≡ true → (was : List ℕ) → Holds before was
         → (r ≡ true) × Holds (set mid 6 (getD before 6 0 - 1)) (removed code was) × (sizesOf (set mid 6 (getD before 6 0 - 1)) ≡ sizesOf before)
     clear-propagates {mid} s e was h =
         let b = clear-begins before (h .placed) (h .sound) code located (found was h .1) e in
@@ -240,18 +240,18 @@ module _ {before : List ℕ} {sizes : Sizes} {layout : Layout} {code : ℕ} {loc
         (told, subst (Holds (set mid 6 (getD before 6 0 - 1))) set-is holds, same)
 
     -- and it comes to rest on a sound store
-    pub mark-never-fails : {mid : List ℕ} → PropagateMeets change located 0 1 before mid false → located .marked ≡ false → getD before 6 0 < sizes .most → (was : List ℕ) → Holds before was → ⊥
+    pub mark-never-fails : {mid : List ℕ} → PropagateMeets change located slots places 0 1 before mid false → located .marked ≡ false → getD before 6 0 < sizes .most → (was : List ℕ) → Holds before was → ⊥
     mark-never-fails s e room was h =
         let t : false ≡ true = mark-propagates s e room was h .0 in
         zero-is-not-one (cc)
 
-    pub clear-never-fails : {mid : List ℕ} → PropagateMeets change located 1 0 before mid false → located .marked ≡ true → (was : List ℕ) → Holds before was → ⊥
+    pub clear-never-fails : {mid : List ℕ} → PropagateMeets change located slots places 1 0 before mid false → located .marked ≡ true → (was : List ℕ) → Holds before was → ⊥
     clear-never-fails s e was h =
         let t : false ≡ true = clear-propagates s e was h .0 in
         zero-is-not-one (cc)
 
     module _ (whole : located .damaged ≡ false) {mid : List ℕ} where
-      pub mark-completed : located .marked ≡ false → getD before 6 0 < sizes .most → PropagateMeets change located 0 1 before mid true
+      pub mark-completed : located .marked ≡ false → getD before 6 0 < sizes .most → PropagateMeets change located slots places 0 1 before mid true
           → MarkAnswer before (set mid 6 (getD before 6 0 + 1)) code marking.Marked
       mark-completed e room s =
           record {
@@ -262,7 +262,7 @@ module _ {before : List ℕ} {sizes : Sizes} {layout : Layout} {code : ℕ} {loc
             past = past-then (s .kept) 6 (getD before 6 0 + 1) (omega arith);
           }
 
-      pub clear-completed : located .marked ≡ true → PropagateMeets change located 1 0 before mid true → ClearAnswer before (set mid 6 (getD before 6 0 - 1)) code clearing.Cleared
+      pub clear-completed : located .marked ≡ true → PropagateMeets change located slots places 1 0 before mid true → ClearAnswer before (set mid 6 (getD before 6 0 - 1)) code clearing.Cleared
       clear-completed e s =
           record {
             sound = λ was h. let t = clear-propagates s e was h in (marked-is was h ∙ e, t .1, t .2);

@@ -19,18 +19,18 @@ use Rattle.update.specs.declared.propagate.Around.{Around}
 use Rattle.update.specs.declared.propagate.Around.the-variants.{Block, Nothing}
 
 -- the block around the one at this depth, as the path names it
-abbrev pub AroundIs : Located → ℕ → Around → Type 0
-AroundIs located depth (Block slot place) =
-    (0 < depth) × (slot ≡ getD (located .slots) (depth - 1) 0) × (place ≡ getD (located .places) (depth - 1) 0) × (place ≤ 75)
-AroundIs located depth Nothing = 0 < depth → 75 < getD (located .places) (depth - 1) 0
+abbrev pub AroundIs : List ℕ → List ℕ → ℕ → Around → Type 0
+AroundIs slots places depth (Block slot place) =
+    (0 < depth) × (slot ≡ getD slots (depth - 1) 0) × (place ≡ getD places (depth - 1) 0) × (place ≤ 75)
+AroundIs slots places depth Nothing = 0 < depth → 75 < getD places (depth - 1) 0
 
-pub record CanPropagate (change : Change) (words : List ℕ) (located : Located) (removed inserted : ℕ) : Type 0 where
+pub record CanPropagate (change : Change) (words : List ℕ) (located : Located) (slots : List ℕ) (removed inserted : ℕ) : Type 0 where
   pub fits : LayoutFits (change .layout) words
   pub k-from : 2 ≤ change .k
   pub k-to : change .k ≤ 16
   pub slot-below : located .slot < change .layout .slots
   pub deep : located .depth ≤ 16
-  pub path-below : (i : ℕ) → i < located .depth → getD (located .slots) i 0 < change .layout .slots
+  pub path-below : (i : ℕ) → i < located .depth → getD slots i 0 < change .layout .slots
   pub place-to : located .place ≤ 75
   pub removed-to : removed ≤ 1
   pub inserted-to : inserted ≤ 1
@@ -58,8 +58,8 @@ pub record OfChange (σ : Setting) (change : Change) : Type 0 where
   pub k-is : change .k ≡ σ .k
   pub x-is : change .code ≡ σ .x
 
-pub record PropagateMeets (change : Change) (located : Located) (removed inserted : ℕ) (before after : List ℕ) (r : Bool) : Type 0 where
+pub record PropagateMeets (change : Change) (located : Located) (slots places : List ℕ) (removed inserted : ℕ) (before after : List ℕ) (r : Bool) : Type 0 where
   pub kept : Kept (change .layout) before after
   pub right : (σ : Setting) → OfChange σ change
-      → PendingAt σ before (located .slots) (located .places) (located .depth) (located .slot) (located .place) removed inserted (change .code ∷ 0 ∷ [])
+      → PendingAt σ before slots places (located .depth) (located .slot) (located .place) removed inserted (change .code ∷ 0 ∷ [])
       → (r ≡ true) × Completed σ after

@@ -22,7 +22,9 @@ pub fn mark(store: &mut [u32], sizes: Sizes, code: u32) -> Marking
     ensures { λ r. ⌜ MarkAnswer (now (store .entry)) (now (store .exit)) code r ⌝ }
 {
     let layout = layout_of(sizes);
-    let located = locate(store, layout, sizes.order, code);
+    let mut slots = [0u32; 17];
+    let mut places = [0u32; 17];
+    let located = locate(store, layout, sizes.order, code, &mut slots, &mut places);
     if located.damaged {
         store[0] = 0;
         return Marking::Damaged;
@@ -39,7 +41,7 @@ pub fn mark(store: &mut [u32], sizes: Sizes, code: u32) -> Marking
         k: wide(sizes.k),
         code,
     };
-    if !propagate(store, change, located, 0, 1) {
+    if !propagate(store, change, located, &slots, &places, 0, 1) {
         store[0] = 0;
         return Marking::Damaged;
     }
@@ -59,7 +61,9 @@ pub fn clear(store: &mut [u32], sizes: Sizes, code: u32) -> Clearing
     ensures { λ r. ⌜ ClearAnswer (now (store .entry)) (now (store .exit)) code r ⌝ }
 {
     let layout = layout_of(sizes);
-    let located = locate(store, layout, sizes.order, code);
+    let mut slots = [0u32; 17];
+    let mut places = [0u32; 17];
+    let located = locate(store, layout, sizes.order, code, &mut slots, &mut places);
     if located.damaged {
         store[0] = 0;
         return Clearing::Damaged;
@@ -77,7 +81,7 @@ pub fn clear(store: &mut [u32], sizes: Sizes, code: u32) -> Clearing
         k: wide(sizes.k),
         code,
     };
-    if !propagate(store, change, located, 1, 0) {
+    if !propagate(store, change, located, &slots, &places, 1, 0) {
         store[0] = 0;
         return Clearing::Damaged;
     }

@@ -13,15 +13,13 @@ pub enum Around {
 
 // The block around the one at this depth of the path: its slot, and the place of the element that was entered there.
 // Nothing is around the root, or where the path names a place that no slot has.
-fn block_around(located: Located, depth: usize) -> Around
+fn block_around(slots: &[u32; 17], places: &[u32; 17], depth: usize) -> Around
     requires { ⌜ depth ≤ 16 ⌝ }
-    ensures { λ r. ⌜ AroundIs located depth r ⌝ }
+    ensures { λ r. ⌜ AroundIs (now (slots .entry)) (now (places .entry)) depth r ⌝ }
 {
     if depth == 0 {
         return Around::Nothing;
     }
-    let slots = located.slots;
-    let places = located.places;
     let place = wide(places[depth - 1]);
     if 75 < place {
         return Around::Nothing;
@@ -34,11 +32,13 @@ pub fn propagate(
     store: &mut [u32],
     change: Change,
     located: Located,
+    slots: &[u32; 17],
+    places: &[u32; 17],
     removed: usize,
     inserted: usize,
 ) -> bool
-    requires { ⌜ CanPropagate change (now store) located removed inserted ⌝ }
-    ensures { λ r. ⌜ PropagateMeets change located removed inserted (now (store .entry)) (now (store .exit)) r ⌝ }
+    requires { ⌜ CanPropagate change (now store) located (now slots) removed inserted ⌝ }
+    ensures { λ r. ⌜ PropagateMeets change located (now (slots .entry)) (now (places .entry)) removed inserted (now (store .entry)) (now (store .exit)) r ⌝ }
 {
     let mut scratch = [0u32; 32];
     scratch[0] = change.code;
@@ -57,7 +57,7 @@ pub fn propagate(
                 return false;
             }
             Stepped::Up(count) => {
-                let Around::Block(around, entered) = block_around(located, depth) else {
+                let Around::Block(around, entered) = block_around(slots, places, depth) else {
                     return false;
                 };
                 depth -= 1;

@@ -41,16 +41,16 @@ header c =
 inner : (c : tie.After-known-told3 Inv-loop μ-loop)
     → let opened = c .before .before .before .before in
     let turn = opened .before .before .before .before .before .before .before in
-    InnerBlock (partOf turn) (opened .before .count .given .0 .0) (turn .before .before .args .code) (c .before .place2 .given .0 .0)
-    (c .before .place2 .given .0 .1 .0) (c .before .place2 .given .0 .1 .1 .0) (c .before .place2 .given .0 .1 .1 .1 .0)
+    InnerBlock (partOf turn) (opened .before .count .given .0 .0) (turn .before .before .args .code) (c .before .inner .given .0 .0 .place)
+    (c .before .inner .given .0 .0 .slot) (c .before .inner .given .0 .0 .level) (c .before .inner .given .0 .0 .code)
 inner c =
     let opened = c .before .before .before .before in
     let turn = opened .before .before .before .before .before .before .before in
     subst₂ (λ (p : List ℕ) (r : Ahead). Looked p (opened .before .count .given .0 .0) (turn .before .before .args .code) r)
-    (part-is (opened .before .before .before .before)) (c .before .place2 .given .1) (c .before .before .before .look .ensures)
+    (part-is (opened .before .before .before .before)) (c .before .inner .given .1) (c .before .before .before .look .ensures)
 
 loop-holds : tie.Need-loop-holds Inv-loop μ-loop
-loop-holds c = at-root _ _ _ _ _ _ (c .before .pre .0) refl refl
+loop-holds c = at-root _ _ _ _ _ _ (c .before .pre .0) (c .before .pre .2) (c .before .pre .3)
 
 slot-part-requires : tie.Need-slot-part-requires Inv-loop μ-loop
 slot-part-requires c κs = (c .before .before .before .before .pre .0, omega (arith, c .before .before .loop .inv .slot-below, c .wide .ensures))
@@ -65,7 +65,7 @@ returns : tie.Need-returns Inv-loop μ-loop
 returns c =
     let opened = c .before .before .before in
     let turn = opened .before .before .before .before in
-    stopped (c .damaged-at .ensures)
+    stopped (c .damaged .ensures)
     (never-closed (turn .before .before .pre .0) (turn .loop .inv)
     (subst₂ (λ (p : List ℕ) (r : Opening). Opened p (turn .loop .level) (turn .loop .block) r) (part-is (opened .before)) (c .before .enum-told .given .1) (opened .open-part .ensures)))
 
@@ -89,7 +89,7 @@ returns-2 c =
 entering : (c : tie.After-can-enter Inv-loop μ-loop) {r : Bool} → c .can-enter .result ≡ r
     → let opened = c .before .before .before .before .before in
     let turn = opened .before .before .before .before .before .before .before in
-    CanEnter (turn .before .before .args .layout) (turn .loop .level) (c .before .before .place2 .given .0 .1 .0) (c .before .before .place2 .given .0 .1 .1 .0) r
+    CanEnter (turn .before .before .args .layout) (turn .loop .level) (c .before .before .inner .given .0 .0 .slot) (c .before .before .inner .given .0 .0 .level) r
 entering c e = rw e at (c .can-enter .ensures)
 
 returns-3 : tie.Need-returns-3 Inv-loop μ-loop
@@ -97,28 +97,28 @@ returns-3 c =
     let entered = c .before .before .before in
     let opened = entered .before .before .before .before in
     let turn = opened .before .before .before .before .before .before .before in
-    stopped (c .damaged-at2 .ensures)
+    stopped (c .damaged2 .ensures)
     (never-barred (turn .before .before .pre .0) (turn .loop .inv) (header opened) (inner entered) (entering (c .before .before) (not-true (c .before .before .can-enter .result) (c .before .if1 .taken))))
 
 cast-places : tie.Need-cast-places Inv-loop μ-loop
 cast-places c =
-    let entered = c .before .before in
+    let entered = c .before .before .before in
     let opened = entered .before .before .before .before in
     let turn = opened .before .before .before .before .before .before .before in
     omega (arith, inner entered .within, few-elements (turn .before .before .pre .0) (turn .loop .inv) (header opened))
 
 loop-again : tie.Need-loop-again Inv-loop μ-loop
 loop-again c =
-    let entered = c .before .before in
+    let entered = c .before .before .before in
     let opened = entered .before .before .before .before in
     let turn = opened .before .before .before .before .before .before .before in
-    let lower = entering (c .before) (not-false (c .before .can-enter .result) (c .if1 .left)) in
+    let lower = entering (c .before .before) (not-false (c .before .before .can-enter .result) (c .before .if1 .left)) in
     steps-down (turn .before .before .pre .0) (turn .loop .inv) (header opened) (inner entered) (turn .before .before .pre .1) (lower .0) (lower .1)
 
 returns-4 : tie.Need-returns-4 Inv-loop μ-loop
 returns-4 c =
     let turn = c .before .before in
-    stopped (c .damaged-at3 .ensures) (never-at-pixel (turn .before .before .pre .0) (turn .loop .inv) (c .before .loop-test .left))
+    stopped (c .damaged3 .ensures) (never-at-pixel (turn .before .before .pre .0) (turn .loop .inv) (c .before .loop-test .left))
 
 pub locate-spec : {M : Type 1} → statement M
 locate-spec =
@@ -148,7 +148,7 @@ locate-spec =
     (λ c. search needs)
     (λ c. search needs)
     (λ c. search needs)
-    (λ c. let lower = entering (c .before) (not-false (c .before .can-enter .result) (c .if1 .left)) in lower .0)
+    (λ c. let lower = entering (c .before .before) (not-false (c .before .before .can-enter .result) (c .before .if1 .left)) in lower .0)
     loop-again
     (λ c κs. search needs)
     returns-4)

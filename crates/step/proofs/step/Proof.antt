@@ -1,10 +1,9 @@
 -- `step::step` meets its contract: what `put` leaves is laid, and what is then found in the slot ends the step as `StepEnds` says.
 use native.Mathlib.Omega.{arith}
-use mathlib.Core.Logic.{inl, inr}
 use borrow.Author.Needs.{needs}
 use Rattle.step.specs.declared.Placing.the-variants.{Elements}
 use Rattle.step.specs.Step.{PutMeets}
-use Rattle.step.proofs.StepEnds.{level-there, can-search, can-hand-up, can-regroup, never-refused, never-too-high, done-then, up-then, formed-then}
+use Rattle.step.proofs.StepEnds.{level-there, can-search, can-hand-up, can-regroup, never-refused, never-too-high, settles-empty, settles-without-run, formed-then}
 use Rattle.step.proofs.step.Statement.{statement}
 use Rattle.step.proofs.step.Tie as tie
 
@@ -18,75 +17,70 @@ placed c = rw (c .count .given .1) at (c .before .before .before .before .put .e
 returns : tie.Need-returns
 returns c = never-refused (c .before .before .before .before .before .before .before .before .before .before .pre .0) (rw (c .enum-told .given .1) at (c .before .before .before .before .put .ensures))
 
-shared-slice-read-level : tie.Need-shared-slice-read-level
-shared-slice-read-level c =
-    let at = c .before in
-    let p = at .before .before .before in
-    level-there (p .before .before .before .before .before .before .before .before .before .before .pre .0) (placed p) (at .slot-part .ensures)
+settle-requires : tie.Need-settle-requires
+settle-requires c κs few =
+    let p = c .before .before .before .before in
+    let s = p .before .before .before .before .before .before .before .before .before .before in
+    can-hand-up (s .pre .0) (placed p) (omega (arith, s .pre .1))
 
 returns-2 : tie.Need-returns-2
 returns-2 c =
+    let u = c .before .before .before .before in
+    let none = u .before .before .before in
+    let p = none .before .before in
+    let s = p .before .before .before .before .before .before .before .before .before .before in
+    settles-empty (s .pre .0) (placed p) (none .if1 .taken) (s .pre .1 .1) (u .settle .ensures)
+
+shared-slice-read-level : tie.Need-shared-slice-read-level
+shared-slice-read-level c =
+    let at = c .before in
+    let p = at .before .before .before .before in
+    level-there (p .before .before .before .before .before .before .before .before .before .before .pre .0) (placed p) (at .slot-part .ensures)
+
+returns-3 : tie.Need-returns-3
+returns-3 c =
     let at = c .before .before in
-    let p = at .before .before .before in
-    never-too-high (p .before .before .before .before .before .before .before .before .before .before .pre .0) (placed p) (at .slot-part .ensures) (c .if1 .taken)
+    let p = at .before .before .before .before in
+    never-too-high (p .before .before .before .before .before .before .before .before .before .before .pre .0) (placed p) (at .slot-part .ensures) (c .if2 .taken)
 
 find-run-requires : tie.Need-find-run-requires
 find-run-requires c κs =
     let at = c .before .before in
-    let p = at .before .before .before in
+    let p = at .before .before .before .before in
     let s = p .before .before .before .before .before .before .before .before .before .before in
-    ((can-search (s .pre .0) (placed p) (at .slot-part .ensures), omega (arith, placed p .0, placed p .1 .cut)), (c .if1 .left, s .pre .1))
+    ((can-search (s .pre .0) (placed p) (at .slot-part .ensures), omega (arith, placed p .0, placed p .1 .cut)), (c .if2 .left, s .pre .1))
 
-returns-3 : tie.Need-returns-3
-returns-3 c =
-    let f = c .before .before .before in
-    let at = f .before .before .before in
-    let p = at .before .before .before in
+settle-requires-2 : tie.Need-settle-requires-2
+settle-requires-2 c κs few =
+    let p = c .before .before .before .before .before .before .before .before .before .before .before in
     let s = p .before .before .before .before .before .before .before .before .before .before in
-    done-then (s .pre .0) (placed p) (at .slot-part .ensures) (rw (c .before .enum-told2 .given .1) at (f .find-run .ensures)) (inl (c .if2 .taken))
-
-returns-4 : tie.Need-returns-4
-returns-4 c =
-    let e = c .before .before .before in
-    let f = e .before .before in
-    let at = f .before .before .before in
-    let p = at .before .before .before in
-    let s = p .before .before .before .before .before .before .before .before .before .before in
-    done-then (s .pre .0) (placed p) (at .slot-part .ensures) (rw (e .enum-told2 .given .1) at (f .find-run .ensures)) (inr (c .if3 .taken))
-
-hand-up-all-requires : tie.Need-hand-up-all-requires
-hand-up-all-requires c κs =
-    let p = c .before .before .before .before .before .before .before .before .before .before .before .before .before in
-    let s = p .before .before .before .before .before .before .before .before .before .before in
-    can-hand-up (s .pre .0) (placed p) (omega arith)
+    can-hand-up (s .pre .0) (placed p) (omega (arith, s .pre .1))
 
 regroup-requires : tie.Need-regroup-requires
 regroup-requires c κs =
     let f = c .before .before .before .before .before in
     let at = f .before .before .before in
-    let p = at .before .before .before in
+    let p = at .before .before .before .before in
     let s = p .before .before .before .before .before .before .before .before .before .before in
-    can-regroup (s .pre .0) (placed p) (f .before .if1 .left) (s .pre .1 .0) (s .pre .1 .1) (rw (c .before .before .before .inner .given .1) at (f .find-run .ensures))
+    can-regroup (s .pre .0) (placed p) (f .before .if2 .left) (s .pre .1 .0) (s .pre .1 .1) (rw (c .before .before .before .inner .given .1) at (f .find-run .ensures))
+
+returns-4 : tie.Need-returns-4
+returns-4 c =
+    let u = c .before .before .before .before in
+    let e = u .before .before .before in
+    let f = e .before .before in
+    let at = f .before .before .before in
+    let p = at .before .before .before .before in
+    let s = p .before .before .before .before .before .before .before .before .before .before in
+    settles-without-run (s .pre .0) (placed p) (at .slot-part .ensures) (rw (e .enum-told2 .given .1) at (f .find-run .ensures)) (s .pre .1 .1) (u .settle2 .ensures)
 
 returns-5 : tie.Need-returns-5
 returns-5 c =
     let u = c .before .before .before .before in
-    let i = u .before .before .before in
-    let e = i .before .before .before in
-    let f = e .before .before in
-    let at = f .before .before .before in
-    let p = at .before .before .before in
-    let s = p .before .before .before .before .before .before .before .before .before .before in
-    up-then (s .pre .0) (placed p) (at .slot-part .ensures) (rw (e .enum-told2 .given .1) at (f .find-run .ensures)) (i .before .before .if2 .left) (i .if3 .left) (s .pre .1 .1)
-    (u .hand-up-all .ensures)
-
-returns-6 : tie.Need-returns-6
-returns-6 c =
-    let u = c .before .before .before .before in
     let i = u .before .before .before .before in
     let f = i .before .before in
     let at = f .before .before .before in
-    let p = at .before .before .before in
+    let p = at .before .before .before .before in
     let s = p .before .before .before .before .before .before .before .before .before .before in
     formed-then (s .pre .0) (placed p) (at .slot-part .ensures) (rw (i .inner .given .1) at (f .find-run .ensures)) (u .regroup .ensures)
 
@@ -100,26 +94,24 @@ step-spec =
     (λ c. search needs)
     (λ c. search needs)
     returns
+    settle-requires
+    (λ c. search needs)
+    (λ c. search needs)
+    returns-2
     (λ c κs. search needs)
     shared-slice-read-level
     (λ c. search needs)
     (λ c. search needs)
-    returns-2
+    returns-3
     (λ c. search needs)
     find-run-requires
     (λ c. search needs)
-    (λ c. search needs)
-    (λ c. search needs)
-    returns-3
-    (λ c. search needs)
-    (λ c. search needs)
-    returns-4
-    hand-up-all-requires
+    settle-requires-2
     (λ c. search needs)
     regroup-requires
     (λ c. search needs)
     (λ c. search needs)
-    returns-5
+    returns-4
     (λ c. search needs)
     (λ c. search needs)
-    returns-6)
+    returns-5)

@@ -1,6 +1,6 @@
 -- `query::ask::ask` meets its contract: what `locate` ensures is the answer.
 use native.Mathlib.Omega.{arith}
-use mathlib.Core.Path.{subst, sym}
+use mathlib.Core.Path.{refl, subst, sym}
 use Rattle.store.specs.declared.sizes.Sizes.{Sizes}
 use Rattle.store.specs.Sizes.{ValidSizes}
 use Rattle.store.proofs.Usable.{layout-fits}
@@ -13,26 +13,36 @@ layout-of-requires c κs = let p = c .before .pre .0 in subst ValidSizes (sym (p
 
 locate-requires : tie.Need-locate-requires
 locate-requires c κs =
-    let a = c .before .before in
-    let p = a .pre .0 in
-    (layout-fits (a .args .sizes) (c .layout-of .result) (a .args .store .now) (p .0) (p .1) (c .layout-of .ensures), omega (arith, layout-of-requires (c .before) (c .layout-of .lifetimes) .panel .order-to))
+    let l = c .before .before in
+    let a = l .before .before in
+    let p = a .pre .0 in (
+      layout-fits (a .args .sizes) (l .layout-of .result) (a .args .store .now) (p .0) (p .1) (l .layout-of .ensures),
+      omega (arith, layout-of-requires (l .before) (l .layout-of .lifetimes) .panel .order-to),
+      refl,
+      refl,
+    )
 
 returns : tie.Need-returns
 returns c =
-    let a = c .before .before .before .before in
+    let l = c .before .before .before .before in
+    let a = l .before .before in
     let p = a .pre .0 in
-    asked-damaged (a .args .store .now) (a .args .code) (a .args .sizes) (c .before .before .layout-of .result) (c .before .locate .result) (p .0) (p .1) (c .before .before .layout-of .ensures)
+    asked-damaged (a .args .store .now) (a .args .code) (a .args .sizes) (l .layout-of .result) _ _ (c .before .locate .result) (p .0) (p .1) (l .layout-of .ensures)
     (a .pre .1) (c .before .locate .ensures) (c .if1 .taken)
 
-add-t7 : tie.Need-add-t7
-add-t7 c = record { fits = omega (arith, c .before .before .locate .ensures .bounds (c .before .if1 .left) .deep, locate-requires (c .before .before .before) (c .before .before .locate .lifetimes) .1) }
+add-t11 : tie.Need-add-t11
+add-t11 c =
+    let s = c .before .before in
+    record { fits = omega (arith, s .locate .ensures .bounds (c .before .if1 .left) .deep, locate-requires (s .before) (s .locate .lifetimes) .1) }
 
 returns-2 : tie.Need-returns-2
 returns-2 c =
-    let a = c .before .before .before .before .before in
+    let s = c .before .before in
+    let l = s .before .before .before in
+    let a = l .before .before in
     let p = a .pre .0 in
-    asked-known (a .args .store .now) (a .args .code) (a .args .sizes) (c .before .before .before .layout-of .result) (c .before .before .locate .result) (p .0) (p .1)
-    (c .before .before .before .layout-of .ensures) (a .pre .1) (c .before .before .locate .ensures) (c .before .if1 .left)
+    asked-known (a .args .store .now) (a .args .code) (a .args .sizes) (l .layout-of .result) _ _ (s .locate .result) (p .0) (p .1) (l .layout-of .ensures)
+    (a .pre .1) (s .locate .ensures) (c .before .if1 .left)
 
 pub ask-spec : {M : Type 1} → statement M
-ask-spec = tie.close (tie.spec layout-of-requires locate-requires returns add-t7 returns-2)
+ask-spec = tie.close (tie.spec layout-of-requires locate-requires returns add-t11 returns-2)

@@ -1,5 +1,5 @@
--- `store::elements::find_place` meets its contract: the code before `low` is never above the given one, that at `high` always is.
-use Prim.Native.Nat.{ℕ, suc, _+_, _-_, _/_, _≤_, _<_}
+-- `store::elements::find_place` meets its contract: the code at `place` is always above the given one.
+use Prim.Native.Nat.{ℕ, suc, _+_, _-_, _*_, _≤_, _<_}
 use native.Mathlib.Omega.{arith}
 use mathlib.Core.Path.{_≡_}
 use borrow.Author.Needs.{needs}
@@ -8,25 +8,26 @@ use Rattle.store.proofs.elements.find_place.Statement.{statement}
 use Rattle.store.proofs.elements.find_place.Tie as tie
 
 abbrev Inv-loop : tie.InvT-loop
-Inv-loop part count code low₀ high₀ low high =
-    (low ≤ high) × (high ≤ count) × ((i : ℕ) → suc i ≡ low → codeAt part i ≤ code) × (high < count → code < codeAt part high)
+Inv-loop part count code place₀ place = (place ≤ count) × (place < count → code < codeAt part place)
 
 abbrev μ-loop : tie.MeasureT-loop
-μ-loop part count code low₀ high₀ low high = high - low
+μ-loop part count code place₀ place = place
+
+loop-holds : tie.Need-loop-holds Inv-loop μ-loop
+loop-holds c = (omega arith, λ h. absurd (omega arith))
+
+returns : tie.Need-returns Inv-loop μ-loop
+returns c =
+    let l = c .before .before .before .loop in
+    record { within = l .inv .0; before = λ i e. let h : 8 + 2 * i ≡ 6 + 2 * l .place = omega arith in rw h (c .if1 .taken); after = l .inv .1 }
 
 loop-again : tie.Need-loop-again Inv-loop μ-loop
 loop-again c =
     let l = c .before .before .before .loop in
-    (omega arith, omega arith, λ i e. let h : i ≡ (l .low + l .high) / 2 = omega arith in rw h (omega arith), l .inv .3)
+    (omega arith, λ t. let h : 8 + 2 * (l .place - 1) ≡ 6 + 2 * l .place = omega arith in rw h (omega (arith, c .if1 .left)))
 
-loop-again-2 : tie.Need-loop-again-2 Inv-loop μ-loop
-loop-again-2 c = let l = c .before .before .before .loop in (omega arith, omega arith, l .inv .2, λ h. omega arith)
-
-returns : tie.Need-returns Inv-loop μ-loop
-returns c =
-    let l = c .before .loop in
-    let e : l .low ≡ l .high = omega arith in
-    record { within = omega arith; before = l .inv .2; after = rw e (l .inv .3) }
+returns-2 : tie.Need-returns-2 Inv-loop μ-loop
+returns-2 c = let l = c .before .loop in record { within = l .inv .0; before = λ i e. absurd (omega arith); after = l .inv .1 }
 
 pub find-place-spec : {M : Type 1} → statement M
 find-place-spec =
@@ -34,15 +35,13 @@ find-place-spec =
     (tie.spec
     Inv-loop
     μ-loop
+    loop-holds
     (λ c. search needs)
     (λ c. search needs)
     (λ c. search needs)
     (λ c. search needs)
-    (λ c. search needs)
-    (λ c. search needs)
+    returns
     (λ c. search needs)
     (λ c. search needs)
     loop-again
-    (λ c. search needs)
-    loop-again-2
-    returns)
+    returns-2)

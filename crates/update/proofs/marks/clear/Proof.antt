@@ -1,6 +1,8 @@
 -- `update::marks::clear` meets its contract: nothing is written before every refusal is decided, and what carries up is the set without the pixel.
+use Prim.Native.Nat.{_≤_}
 use native.Mathlib.Omega.{arith}
 use mathlib.Core.Path.{refl}
+use lib.ListN.{length}
 use borrow.Author.Needs.{needs}
 use borrow.Author.Tests.{not-true, not-false}
 use Rattle.store.proofs.Usable.{layout-fits}
@@ -14,15 +16,22 @@ layout-of-requires c κs = rw (c .before .pre .0 .1) (c .before .pre .0 .0 .vali
 
 locate-requires : tie.Need-locate-requires
 locate-requires c κs =
-    let s = c .before .before .before in (
-      layout-fits (s .args .sizes) _ (s .args .store .now) (s .pre .0 .0) (s .pre .0 .1) (c .before .layout-of .ensures),
+    let l = c .before .before .before in
+    let s = l .before .before in (
+      layout-fits (s .args .sizes) _ (s .args .store .now) (s .pre .0 .0) (s .pre .0 .1) (l .layout-of .ensures),
       rw (s .pre .0 .1) (s .pre .0 .0 .valid .panel .order-to),
+      refl,
+      refl,
     )
 
-looked-up : (c : tie.After-locate) → LookedUp (c .before .before .before .before .args .store .now) (c .before .before .before .before .args .sizes) (c .before .before .layout-of .result) (c .before .before .before .before .args .code) (c .locate .result)
+looked-up : (c : tie.After-locate)
+    → let l = c .before .before .before .before in
+    let s = l .before .before in
+    LookedUp (s .args .store .now) (s .args .sizes) (l .layout-of .result) (s .args .code) (c .locate .last .1 .1 .1 .1 .0) (c .locate .last .1 .1 .1 .1 .1 .0) (c .locate .result)
 looked-up c =
-    let s = c .before .before .before .before in
-    record { usable = s .pre .0 .0; sizes-are = s .pre .0 .1; on-panel = s .pre .1; laid = c .before .before .layout-of .ensures; meets = c .locate .ensures }
+    let l = c .before .before .before .before in
+    let s = l .before .before in
+    record { usable = s .pre .0 .0; sizes-are = s .pre .0 .1; on-panel = s .pre .1; laid = l .layout-of .ensures; meets = c .locate .ensures }
 
 returns : tie.Need-returns
 returns c = let u = looked-up (c .before) in clear-damaged u (kept-same _ _ _ refl) (never-damaged u (c .if1 .taken))
@@ -38,24 +47,31 @@ returns-3 c =
 
 propagate-requires : tie.Need-propagate-requires
 propagate-requires c κs =
-    let whole = c .before .before .before .before .before .before in
-    can-propagate (looked-up (whole .before)) (c .before .wide .ensures) (whole .if1 .left) (omega arith) (omega arith)
+    let room = c .before .before .before in
+    let whole = room .before .before .before .before .before in
+    can-propagate (looked-up (whole .before)) (room .wide .ensures) (whole .if1 .left) (omega arith) (omega arith)
+
+-- the store is as long as it was
+still-long : (c : tie.After-propagate) → 8 ≤ length (c .propagate .last .0)
+still-long c =
+    let there = c .before .before .before .before .before .before .before .before .before .before in
+    omega (arith, c .propagate .ensures .kept .long, looked-up there .usable .long)
 
 returns-4 : tie.Need-returns-4
 returns-4 c =
     let after = c .before .before .before in
-    let there = after .before .before .before .before .before in
+    let there = after .before .before .before .before .before .before .before in
     let u = looked-up (there .before .before .before) in
     let s = rw (not-true (after .propagate .result) (c .if4 .taken)) at (after .propagate .ensures) in
-    clear-damaged u (s .kept) (clear-never-fails u (after .before .before .wide .ensures) s (not-false _ (there .if2 .left)))
+    clear-damaged u (s .kept) (clear-never-fails u (after .before .before .before .before .wide .ensures) s (not-false _ (there .if2 .left)))
 
 returns-5 : tie.Need-returns-5
 returns-5 c =
     let after = c .before .before .before in
-    let there = after .before .before .before .before .before in
+    let there = after .before .before .before .before .before .before .before in
     let whole = there .before .before in
     let s = rw (not-false (after .propagate .result) (c .if4 .left)) at (after .propagate .ensures) in
-    clear-completed (looked-up (whole .before)) (after .before .before .wide .ensures) (whole .if1 .left) (not-false _ (there .if2 .left)) s
+    clear-completed (looked-up (whole .before)) (after .before .before .before .before .wide .ensures) (whole .if1 .left) (not-false _ (there .if2 .left)) s
 
 pub clear-spec : {M : Type 1} → statement M
 clear-spec =
@@ -74,10 +90,10 @@ clear-spec =
     returns-3
     (λ c κs. search needs)
     propagate-requires
-    (λ c. search needs)
+    (λ c. omega (arith, still-long (c .before .before .before)))
     (λ c. search needs)
     returns-4
     (λ c. search needs)
-    (λ c. search needs)
+    (λ c. omega (arith, still-long (c .before .before .before)))
     (λ c. search needs)
     returns-5)

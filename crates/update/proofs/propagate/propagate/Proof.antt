@@ -15,9 +15,9 @@ use Rattle.update.proofs.propagate.propagate.Statement.{statement}
 use Rattle.update.proofs.propagate.propagate.Tie as tie
 
 abbrev Inv-loop : tie.InvT-loop
-Inv-loop store₀ change located removed inserted scratch₀ depth₀ slot₀ place₀ out₀ coming₀ store scratch depth slot place out coming =
-    InBounds change (located .slots) store scratch depth slot place out coming × Kept (change .layout) store₀ store
-    × Carried change (located .slots) (located .places) store₀ depth₀ slot₀ place₀ out₀ coming₀ store scratch depth slot place out coming
+Inv-loop store₀ change slots places removed inserted scratch₀ depth₀ slot₀ place₀ out₀ coming₀ store scratch depth slot place out coming =
+    InBounds change slots store scratch depth slot place out coming × Kept (change .layout) store₀ store
+    × Carried change slots places store₀ depth₀ slot₀ place₀ out₀ coming₀ store scratch depth slot place out coming
 
 -- the slot and the place that are read off the path are those that it names
 named : (σ : Setting) {words slots places : List ℕ} {depth removed inserted slot place slot′ place′ : ℕ} {scratch : List ℕ} → slot ≡ slot′ → place ≡ place′
@@ -27,7 +27,7 @@ named σ {words} {slots} {places} {depth} {removed} {inserted} {slot} {place} {s
     (subst (λ (t : ℕ). PendingAt σ words slots places depth t place removed inserted scratch) e p)
 
 abbrev μ-loop : tie.MeasureT-loop
-μ-loop store₀ change located removed inserted scratch₀ depth₀ slot₀ place₀ out₀ coming₀ store scratch depth slot place out coming = depth
+μ-loop store₀ change slots places removed inserted scratch₀ depth₀ slot₀ place₀ out₀ coming₀ store scratch depth slot place out coming = depth
 
 loop-holds : tie.Need-loop-holds Inv-loop μ-loop
 loop-holds c =
@@ -43,7 +43,7 @@ loop-holds c =
         path-below = a .pre .path-below;
       },
       record { long = refl; head = refl; past = refl },
-      λ σ o p. begins σ (a .args .store .now) (a .args .located .slots) (a .args .located .places) (a .args .located .depth) (c .wide .result) (a .args .located .place) (a .args .removed) (a .args .inserted)
+      λ σ o p. begins σ (a .args .store .now) (a .args .slots .now) (a .args .places .now) (a .args .located .depth) (c .wide .result) (a .args .located .place) (a .args .removed) (a .args .inserted)
           (a .args .change .code ∷ 0 ∷ []) (set (replicate 32 0) 0 (a .args .change .code)) (a .pre .inserted-to) refl p,
     )
 
@@ -72,7 +72,7 @@ returns c =
       kept = kept-then (l .loop .inv .1) (s .step .ensures .kept);
       right = λ σ o p. (
         refl,
-        rests (a .args .change) (a .args .located .slots) (a .args .located .places) (l .loop .store) (l .loop .scratch) _ _ (l .loop .depth) (l .loop .slot) (l .loop .place) (l .loop .out)
+        rests (a .args .change) (a .args .slots .now) (a .args .places .now) (l .loop .store) (l .loop .scratch) _ _ (l .loop .depth) (l .loop .slot) (l .loop .place) (l .loop .out)
             (l .loop .coming) (s .step .result) (s .step .ensures) (c .enum-told .given .1) σ o (l .loop .inv .2 σ o (named σ (sym w) refl p)),
       );
     }
@@ -86,7 +86,7 @@ returns-2 c =
     record {
       kept = kept-then (l .loop .inv .1) (s .step .ensures .kept);
       right = λ σ o p. absurd
-          (never-damaged (a .args .change) (a .args .located .slots) (a .args .located .places) (l .loop .store) (l .loop .scratch) _ _ (l .loop .depth) (l .loop .slot) (l .loop .place)
+          (never-damaged (a .args .change) (a .args .slots .now) (a .args .places .now) (l .loop .store) (l .loop .scratch) _ _ (l .loop .depth) (l .loop .slot) (l .loop .place)
           (l .loop .out) (l .loop .coming) (s .step .result) (s .step .ensures) (c .enum-told2 .given .1) σ o (l .loop .inv .2 σ o (named σ (sym w) refl p)));
     }
 
@@ -99,14 +99,14 @@ returns-3 c =
     record {
       kept = kept-then (l .loop .inv .1) (s .step .ensures .kept);
       right = λ σ o p. absurd
-          (never-unnamed (a .args .change) (a .args .located .slots) (a .args .located .places) (l .loop .store) (l .loop .scratch) _ _ (l .loop .depth) (l .loop .slot) (l .loop .place)
+          (never-unnamed (a .args .change) (a .args .slots .now) (a .args .places .now) (l .loop .store) (l .loop .scratch) _ _ (l .loop .depth) (l .loop .slot) (l .loop .place)
           (l .loop .out) (l .loop .coming) (s .step .result) (s .step .ensures) _ (c .before .before .before .before .count .given .1)
           (rw (c .enum-told3 .given .1) at (c .before .before .block-around .ensures)) σ o (l .loop .inv .2 σ o (named σ (sym w) refl p)));
     }
 
 -- what was read off the path
 around : (c : tie.After-known-told2 Inv-loop μ-loop) → (let l = c .before .before .before .before .before .before .before .before .before .before .before .before .before in
-    AroundIs (l .before .before .before .args .located) (l .loop .depth) (Block (c .before .around .given .0 .0) (c .before .around .given .0 .1 .0)))
+    AroundIs (l .before .before .before .args .slots .now) (l .before .before .before .args .places .now) (l .loop .depth) (Block (c .before .around .given .0 .0) (c .before .around .given .0 .1 .0)))
 around c = rw (c .before .around .given .1) at (c .before .before .before .block-around .ensures)
 
 loop-again : tie.Need-loop-again Inv-loop μ-loop
@@ -129,7 +129,7 @@ loop-again c =
       },
       kept-then (l .loop .inv .1) (s .step .ensures .kept),
       λ σ o p. named σ (sym (n .1)) (sym (n .2))
-          (moves-up (a .args .change) (a .args .located .slots) (a .args .located .places) (l .loop .store) (l .loop .scratch) _ _ (l .loop .depth) (l .loop .slot) (l .loop .place) (l .loop .out)
+          (moves-up (a .args .change) (a .args .slots .now) (a .args .places .now) (l .loop .store) (l .loop .scratch) _ _ (l .loop .depth) (l .loop .slot) (l .loop .place) (l .loop .out)
           (l .loop .coming) (s .step .result) (s .step .ensures) _ up σ o (l .loop .inv .2 σ o p) (n .0)),
     )
 

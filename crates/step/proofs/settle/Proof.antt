@@ -1,0 +1,25 @@
+-- `step::settle` meets its contract: its tests are those of the contract.
+use mathlib.Core.Path.{refl}
+use mathlib.Core.Logic.{inl, inr}
+use borrow.Author.Needs.{needs}
+use native.Mathlib.Omega.{arith}
+use Rattle.step.proofs.settle.Statement.{statement}
+use Rattle.step.proofs.settle.Tie as tie
+
+returns : tie.Need-returns
+returns c = (inl (c .if1 .taken), refl, refl)
+
+returns-2 : tie.Need-returns-2
+returns-2 c = (inr (c .if2 .taken), refl, refl)
+
+hand-up-all-requires : tie.Need-hand-up-all-requires
+hand-up-all-requires c κs = c .before .before .before .before .before .before .before .pre (c .before .before .if2 .left)
+
+returns-3 : tie.Need-returns-3
+returns-3 c =
+    let u = c .before .before .before .before in
+    let f = u .before .before .before in
+    (f .before .before .if1 .left, f .if2 .left, u .hand-up-all .ensures)
+
+pub settle-spec : {M : Type 1} → statement M
+settle-spec = tie.close (tie.spec returns returns-2 hand-up-all-requires (λ c. search needs) (λ c. search needs) returns-3)
