@@ -19,7 +19,7 @@ use store::slots::offset;
 use store::slots::slot_part;
 use store::slots::wide;
 
-// The elements of a slot written anew, but not yet their number.
+// The elements of a slot written anew; its header is left to `head_slot`.
 fn lay_elements(store: &mut [u32], layout: Layout, slot: usize, source: &[u32], count: usize)
     requires { ⌜ LayoutFits layout (now store) × (slot < layout .slots) ⌝ }
     requires { ⌜ (8 + 2 * count ≤ layout .width) × (2 * count ≤ length (now source)) ⌝ }
@@ -68,7 +68,7 @@ fn copy_run(target: &mut [u32], at: usize, part: &[u32], first: usize, size: usi
     copy_words(target, at, &part[from..], 2 * size);
 }
 
-// A run of a slot's elements laid as the first elements of a slot, of the same one too.
+// A run of a slot's elements laid as the first elements of another slot, or of the same.
 fn move_run(store: &mut [u32], layout: Layout, slot: usize, first: usize, size: usize, other: usize)
     requires { ⌜ LayoutFits layout (now store) × ((slot < layout .slots) × (other < layout .slots)) ⌝ }
     requires { ⌜ RunWithin (slotPart (layout .width) (now store) slot) first size ⌝ }
@@ -84,7 +84,8 @@ pub enum Forming {
     NoSlot,
 }
 
-// A run of a slot's elements becomes a block of its own, in a free slot, and one element in their place.
+// A run of a slot's elements becomes a block of its own, in a free slot, and one element in their place. The header of the free slot
+// comes last: in damaged words it may be the same slot, and the splice reads the number of its elements.
 pub fn form_block(
     store: &mut [u32],
     layout: Layout,

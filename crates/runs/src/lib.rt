@@ -98,7 +98,7 @@ fn place_of(part: &[u32], count: usize, near: usize, code: u32) -> usize
 
 // The least level below the block's own at which the block around the code holds k of the elements; these are one run, found going
 // outwards from the code's place by the levels of common blocks.
-pub fn least_run(part: &[u32], count: usize, place: usize, level: u32, k: usize, code: u32) -> Run
+fn least_run(part: &[u32], count: usize, place: usize, level: u32, k: usize, code: u32) -> Run
     requires { ⌜ (Counted (now part) count × PlaceOf (now part) count code place) × ((level ≤ 16) × ((2 ≤ k) × (k ≤ 16))) ⌝ }
     ensures { λ r. ⌜ RunMeets (now (part .entry)) count level k code r ⌝ }
 {
