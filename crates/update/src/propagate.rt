@@ -50,12 +50,8 @@ pub fn propagate(
     loop {
         let root = depth == 0;
         match step(store, change, root, slot, place, out, &mut scratch, coming) {
-            Stepped::Done => {
-                return true;
-            }
-            Stepped::Damaged => {
-                return false;
-            }
+            Stepped::Done => return true,
+            Stepped::Damaged => return false,
             Stepped::Up(count) => {
                 let Around::Block(around, entered) = block_around(slots, places, depth) else {
                     return false;

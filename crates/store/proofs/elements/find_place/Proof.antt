@@ -19,7 +19,7 @@ loop-holds c = (omega arith, λ h. absurd (omega arith))
 returns : tie.Need-returns Inv-loop μ-loop
 returns c =
     let l = c .before .before .before .loop in
-    record { within = l .inv .0; before = λ i e. let h : 8 + 2 * i ≡ 6 + 2 * l .place = omega arith in rw h (c .if1 .taken); after = l .inv .1 }
+    record { within = l .inv .0; before = λ i e. let h : 8 + 2 * i ≡ 6 + 2 * l .place = omega arith in rw h (omega (arith, c .if1 .taken)); after = l .inv .1 }
 
 loop-again : tie.Need-loop-again Inv-loop μ-loop
 loop-again c =
