@@ -1,30 +1,30 @@
 // Load and check on a damaged store.
-use crate::answer::Answer;
-use crate::answer::answered;
-use crate::answer::done;
-use crate::answer::refused;
-use crate::calls;
 use crate::damaged_calls::end_kept;
 use crate::damaged_calls::fixed;
-use crate::draws::Step;
-use crate::histories::walk;
-use crate::images::compose;
-use crate::loads::load_bytes;
-use crate::panel::Panel;
-use crate::panel::panel_of;
-use crate::panel::unusable;
-use crate::plain_load::load_first;
-use crate::report::CHECK;
-use crate::report::CHECKS;
-use crate::report::LOAD;
-use crate::report::SAVE;
-use crate::report::compare;
-use crate::report::compare_store;
-use crate::report::expect;
-use crate::spoiling::spoil;
-use crate::steps;
-use crate::words::add_one;
-use crate::words::product_and;
+use differential::calls;
+use differential::histories::walk;
+use differential::loads::load_bytes;
+use differential::steps;
+use draws::Step;
+use draws::images::compose;
+use draws::spoiling::spoil;
+use plain::answer::Answer;
+use plain::answer::answered;
+use plain::answer::done;
+use plain::answer::refused;
+use plain::load::load_first;
+use plain::panel::Panel;
+use plain::panel::panel_of;
+use plain::panel::unusable;
+use plain::words::add_one;
+use plain::words::product_and;
+use report::CHECK;
+use report::CHECKS;
+use report::LOAD;
+use report::SAVE;
+use report::compare;
+use report::compare_store;
+use report::expect;
 
 // Load's answer is fixed; a store that was loaded is sound, whatever it was before.
 pub fn load(step: Step, store: &mut [u32], plain: &mut [u32]) {

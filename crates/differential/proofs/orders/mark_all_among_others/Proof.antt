@@ -1,0 +1,36 @@
+-- `differential::orders::mark_all_among_others` ends: the index rises to the bound.
+use Prim.Native.Nat.{ℕ, _-_, _≤_}
+use mathlib.Core.Path.{_≡_}
+use lib.ListN.{length}
+use borrow.Author.Needs.{needs}
+use Rattle.differential.proofs.orders.mark_all_among_others.Statement.{statement}
+use Rattle.differential.proofs.orders.mark_all_among_others.Tie as tie
+
+abbrev Inv-loop : tie.InvT-loop
+Inv-loop panel step store₀ plain₀ i₀ i-end store plain i = (i ≤ i-end) × (length store ≡ length store₀) × (length plain ≡ length plain₀)
+
+abbrev μ-loop : tie.MeasureT-loop
+μ-loop panel step store₀ plain₀ i₀ i-end store plain i = i-end - i
+
+pub mark-all-among-others-spec : {M : Type 1} → statement M
+mark-all-among-others-spec =
+    tie.close
+    (tie.spec
+    Inv-loop
+    μ-loop
+    (λ c κs. search needs)
+    (λ c κs. search needs)
+    (λ c κs. search needs)
+    (λ c κs. search needs)
+    (λ c κs. search needs)
+    (λ c. search needs)
+    (λ c κs. search needs)
+    (λ c κs. search needs)
+    (λ c κs. search needs)
+    (λ c κs. search needs)
+    (λ c. search needs)
+    (λ c. search needs)
+    (λ c. search needs)
+    (λ c. search needs)
+    (λ c. search needs)
+    (λ c. search needs))

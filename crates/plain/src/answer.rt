@@ -1,0 +1,45 @@
+// 01's number of the refusal, 0 for none, and the values beside it.
+pub struct Answer {
+    pub number: u32,
+    pub first: u32,
+    pub second: u32,
+}
+
+pub fn refused(number: u32) -> Answer {
+    Answer {
+        number,
+        first: 0,
+        second: 0,
+    }
+}
+
+pub fn too_short(needed: u32) -> Answer {
+    Answer {
+        number: 9,
+        first: needed,
+        second: 0,
+    }
+}
+
+pub fn answered(first: u32, second: u32) -> Answer {
+    Answer {
+        number: 0,
+        first,
+        second,
+    }
+}
+
+pub fn done() -> Answer {
+    answered(0, 0)
+}
+
+pub fn equal(a: Answer, b: Answer) -> bool {
+    a.number == b.number && a.first == b.first && a.second == b.second
+}
+
+pub fn number_of(yes: bool) -> u32 {
+    if yes {
+        return 1;
+    }
+    0
+}
