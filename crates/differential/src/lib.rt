@@ -1,6 +1,6 @@
-// The register beside the plain set program, through its public calls: histories of calls, and two orders of the same marks.
+// One call, drawn, on the register and on the plain set, compared: on a sound store, and on a damaged one what 01 fixes.
 pub mod calls;
-pub mod histories;
+pub mod damaged_calls;
+pub mod damaged_loads;
 pub mod loads;
-pub mod orders;
 pub mod steps;

@@ -188,7 +188,7 @@ pub fn save_to(store: &[u32], length: u32, output: &mut [u8]) -> Answer {
     calls::save(store, &mut output[..end])
 }
 
-fn make(panel: Panel, step: Step, store: &mut [u32], plain: &mut [u32]) {
+pub fn make(panel: Panel, step: Step, store: &mut [u32], plain: &mut [u32]) {
     let length = store.len();
     let got = calls::make(store, panel);
     let want = plain::calls::make(panel, length, plain);
@@ -213,4 +213,22 @@ pub fn compare_image(panel: Panel, step: Step, store: &[u32], plain: &mut [u32])
     compare(step, SAVE, got, want, plain);
     compare_bytes(step, SAVE, &output, &wanted, plain);
     add_one(plain, IMAGES);
+}
+
+// The calls from `low` to `high`.
+pub fn walk(panel: Panel, seed: u32, low: u32, high: u32, store: &mut [u32], plain: &mut [u32]) {
+    for number in low..high {
+        let step = Step { seed, number };
+        run(panel, step, store, plain);
+        compare_whole(panel, step, store, plain);
+    }
+}
+
+// After every 64th call the whole image and check are compared.
+fn compare_whole(panel: Panel, step: Step, store: &[u32], plain: &mut [u32]) {
+    if step.number % 64 != 63 {
+        return;
+    }
+    compare_image(panel, step, store, plain);
+    check(step, store, plain);
 }

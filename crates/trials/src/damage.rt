@@ -1,8 +1,8 @@
 // Damaged stores through all calls: what 01 fixes of them is compared.
-use crate::damaged_calls;
-use crate::damaged_loads;
-use differential::histories::make_as;
-use differential::histories::walk;
+use differential::damaged_calls;
+use differential::damaged_loads;
+use differential::steps::make;
+use differential::steps::walk;
 use draws::Step;
 use draws::draw;
 use draws::panels::panel_drawn;
@@ -49,7 +49,7 @@ fn run_seed(seed: u32, calls: u32, store: &mut [u32], plain: &mut [u32]) {
 }
 
 fn run_damaged(panel: Panel, seed: u32, calls: u32, store: &mut [u32], plain: &mut [u32]) {
-    make_as(panel, Step { seed, number: 0 }, store, plain);
+    make(panel, Step { seed, number: 0 }, store, plain);
     walk(panel, seed, 0, 48, store, plain);
     spoil(panel, Step { seed, number: 48 }, store);
     walk_damaged(panel, seed, calls, store, plain);

@@ -1,10 +1,10 @@
-// Random calls of the register against a plain set program: histories and orders on sound stores, then damaged stores.
+// Random calls of the register against a plain set program: histories, two orders of the same marks, damaged stores.
 mod damage;
-mod damaged_calls;
-mod damaged_loads;
+mod histories;
+mod orders;
 
 fn main() {
-    differential::histories::run_all(240, 896);
-    differential::orders::run_all(480);
+    histories::run_all(240, 896);
+    orders::run_all(480);
     damage::run_all(960, 32);
 }

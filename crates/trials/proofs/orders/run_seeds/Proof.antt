@@ -1,16 +1,16 @@
--- `differential::histories::run_seeds` ends: the index rises to the bound.
+-- `trials::orders::run_seeds` ends: the index rises to the bound.
 use Prim.Native.Nat.{ℕ, _-_, _≤_}
 use mathlib.Core.Path.{_≡_}
 use lib.ListN.{length}
 use borrow.Author.Needs.{needs}
-use Rattle.differential.proofs.histories.run_seeds.Statement.{statement}
-use Rattle.differential.proofs.histories.run_seeds.Tie as tie
+use Rattle.trials.proofs.orders.run_seeds.Statement.{statement}
+use Rattle.trials.proofs.orders.run_seeds.Tie as tie
 
 abbrev Inv-loop : tie.InvT-loop
-Inv-loop number calls plain₀ seed₀ plain seed = (seed ≤ number) × (length plain ≡ length plain₀)
+Inv-loop seeds plain₀ seed₀ plain seed = (seed ≤ seeds) × (length plain ≡ length plain₀)
 
 abbrev μ-loop : tie.MeasureT-loop
-μ-loop number calls plain₀ seed₀ plain seed = number - seed
+μ-loop seeds plain₀ seed₀ plain seed = seeds - seed
 
 pub run-seeds-spec : {M : Type 1} → statement M
 run-seeds-spec =
@@ -18,7 +18,6 @@ run-seeds-spec =
     (tie.spec
     Inv-loop
     μ-loop
-    (λ c. search needs)
     (λ c. search needs)
     (λ c κs. search needs)
     (λ c. search needs)

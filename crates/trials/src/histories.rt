@@ -1,17 +1,13 @@
 // Histories: from make on, calls drawn, on a store of just the words that the formula asks for.
-use crate::calls;
-use crate::steps::check;
-use crate::steps::compare_image;
-use crate::steps::run;
+use differential::steps::make;
+use differential::steps::walk;
 use draws::Step;
 use draws::panels::panel_drawn;
 use plain::panel::Panel;
 use plain::panel::words_needed;
 use plain::words::place;
 use report::LENGTH;
-use report::MAKE;
 use report::PAST;
-use report::compare;
 use report::compare_words;
 use report::print_totals;
 use report::stopped;
@@ -68,7 +64,7 @@ fn make_short(panel: Panel, step: Step, store: &mut [u32], plain: &mut [u32]) {
         return;
     }
     let end = length - 1;
-    make_as(panel, step, &mut store[..end], plain);
+    make(panel, step, &mut store[..end], plain);
 }
 
 // Make with numbers beyond their limits, on a store too short by a word, and as it should be.
@@ -106,32 +102,7 @@ fn start(panel: Panel, seed: u32, store: &mut [u32], plain: &mut [u32]) {
             most: 65536,
         },
     };
-    make_as(beyond, step, store, plain);
+    make(beyond, step, store, plain);
     make_short(panel, step, store, plain);
-    make_as(panel, step, store, plain);
-}
-
-pub fn make_as(panel: Panel, step: Step, store: &mut [u32], plain: &mut [u32]) {
-    let length = store.len();
-    let got = calls::make(store, panel);
-    let want = plain::calls::make(panel, length, plain);
-    compare(step, MAKE, got, want, plain);
-}
-
-// The calls from `low` to `high`.
-pub fn walk(panel: Panel, seed: u32, low: u32, high: u32, store: &mut [u32], plain: &mut [u32]) {
-    for number in low..high {
-        let step = Step { seed, number };
-        run(panel, step, store, plain);
-        compare_whole(panel, step, store, plain);
-    }
-}
-
-// After every 64th call the whole image and check are compared.
-fn compare_whole(panel: Panel, step: Step, store: &[u32], plain: &mut [u32]) {
-    if step.number % 64 != 63 {
-        return;
-    }
-    compare_image(panel, step, store, plain);
-    check(step, store, plain);
+    make(panel, step, store, plain);
 }

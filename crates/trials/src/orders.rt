@@ -1,7 +1,7 @@
 // Two orders of the same marks end in the same bytes, also where other pixels come and go between them.
-use crate::calls;
-use crate::steps::check;
-use crate::steps::compare_image;
+use differential::calls;
+use differential::steps::check;
+use differential::steps::compare_image;
 use draws::Step;
 use draws::draw;
 use draws::images::draw_set;

@@ -1,9 +1,9 @@
--- `differential::histories::run_seed` is safe: the part that is lent has the length asked for.
+-- `trials::histories::run_seed` is safe: the part that is lent has the length asked for.
 use native.Mathlib.Omega.{arith}
 use lib.ListN.{length-take}
 use borrow.Author.Needs.{needs}
-use Rattle.differential.proofs.histories.run_seed.Statement.{statement}
-use Rattle.differential.proofs.histories.run_seed.Tie as tie
+use Rattle.trials.proofs.histories.run_seed.Statement.{statement}
+use Rattle.trials.proofs.histories.run_seed.Tie as tie
 
 pub run-seed-spec : {M : Type 1} → statement M
 run-seed-spec =

@@ -1,10 +1,10 @@
 // Load and check on a damaged store.
+use crate::calls;
 use crate::damaged_calls::end_kept;
 use crate::damaged_calls::fixed;
-use differential::calls;
-use differential::histories::walk;
-use differential::loads::load_bytes;
-use differential::steps;
+use crate::loads::load_bytes;
+use crate::steps::walk;
+use crate::steps;
 use draws::Step;
 use draws::images::compose;
 use draws::spoiling::spoil;

@@ -1,8 +1,8 @@
--- `trials::damaged_calls::all_ones` ends: the index rises to the bound.
+-- `differential::damaged_calls::all_ones` ends: the index rises to the bound.
 use Prim.Native.Nat.{ℕ, _-_, _≤_}
 use borrow.Author.Needs.{needs}
-use Rattle.trials.proofs.damaged_calls.all_ones.Statement.{statement}
-use Rattle.trials.proofs.damaged_calls.all_ones.Tie as tie
+use Rattle.differential.proofs.damaged_calls.all_ones.Statement.{statement}
+use Rattle.differential.proofs.damaged_calls.all_ones.Tie as tie
 
 abbrev Inv-loop : tie.InvT-loop
 Inv-loop store end i₀ i = 4 ≤ i

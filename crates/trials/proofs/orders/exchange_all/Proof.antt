@@ -1,10 +1,10 @@
--- `differential::orders::exchange_all` ends: the index rises to the bound.
+-- `trials::orders::exchange_all` ends: the index rises to the bound.
 use Prim.Native.Nat.{ℕ, _-_, _≤_}
 use mathlib.Core.Path.{_≡_}
 use lib.ListN.{length}
 use borrow.Author.Needs.{needs}
-use Rattle.differential.proofs.orders.exchange_all.Statement.{statement}
-use Rattle.differential.proofs.orders.exchange_all.Tie as tie
+use Rattle.trials.proofs.orders.exchange_all.Statement.{statement}
+use Rattle.trials.proofs.orders.exchange_all.Tie as tie
 
 abbrev Inv-loop : tie.InvT-loop
 Inv-loop step plain₀ i₀ i-end plain i = (i ≤ i-end) × (length plain ≡ length plain₀)

@@ -1,7 +1,7 @@
 // Mark, clear, ask, count, list and save on a damaged store.
-use differential::calls;
-use differential::steps::list_to;
-use differential::steps::save_to;
+use crate::calls;
+use crate::steps::list_to;
+use crate::steps::save_to;
 use draws::Step;
 use draws::draw;
 use draws::pixels::pixel_drawn;

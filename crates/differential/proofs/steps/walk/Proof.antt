@@ -1,10 +1,10 @@
--- `differential::histories::walk` ends: the index rises to the bound.
+-- `differential::steps::walk` ends: the index rises to the bound.
 use Prim.Native.Nat.{ℕ, _-_, _≤_}
 use mathlib.Core.Path.{_≡_}
 use lib.ListN.{length}
 use borrow.Author.Needs.{needs}
-use Rattle.differential.proofs.histories.walk.Statement.{statement}
-use Rattle.differential.proofs.histories.walk.Tie as tie
+use Rattle.differential.proofs.steps.walk.Statement.{statement}
+use Rattle.differential.proofs.steps.walk.Tie as tie
 
 abbrev Inv-loop : tie.InvT-loop
 Inv-loop panel seed low high store₀ plain₀ number₀ store plain number = (low ≤ number) × (length store ≡ length store₀) × (length plain ≡ length plain₀)
