@@ -1,4 +1,5 @@
 // Images for load: of the present set, of one saved before, of a set drawn; left alone or damaged.
+ghost use Prim.Native.Nat.{_≤_};
 use crate::Step;
 use crate::draw;
 use crate::pixels::code_inside;
@@ -20,7 +21,9 @@ use plain::words::word;
 const IMAGE_KEPT: u32 = 400;
 
 // Writes an image and returns its length, at most 700.
-pub fn compose(panel: Panel, step: Step, plain: &[u32], bytes: &mut [u8]) -> u32 {
+pub fn compose(panel: Panel, step: Step, plain: &[u32], bytes: &mut [u8]) -> u32
+    ensures { λ r. ⌜ r ≤ 700 ⌝ }
+{
     let length = compose_whole(panel, step, plain, bytes);
     lesser(damaged(step, length, bytes), 700)
 }

@@ -1,4 +1,5 @@
 // Pixels and windows drawn: from a crowded corner of the panel, from the whole panel, of the set, off the panel.
+ghost use Prim.Native.Nat.{_≤_};
 use crate::Step;
 use crate::draw;
 use crate::word_drawn;
@@ -126,7 +127,9 @@ fn ordered(a: Pixel, b: Pixel) -> Window {
     }
 }
 
-pub fn lesser(a: u32, b: u32) -> u32 {
+pub fn lesser(a: u32, b: u32) -> u32
+    ensures { λ r. ⌜ (r ≤ a) × (r ≤ b) ⌝ }
+{
     if a < b {
         return a;
     }

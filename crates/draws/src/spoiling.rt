@@ -1,4 +1,6 @@
 // Damage done to a store: words drawn, single words changed, FFFFFFFF, slots that name each other or themselves.
+ghost use mathlib.Core.Path.{_≡_};
+ghost use lib.ListN.{length};
 use crate::Step;
 use crate::draw;
 use crate::word_drawn;
@@ -10,7 +12,9 @@ use plain::words::product_and;
 use plain::words::put;
 use plain::words::word;
 
-pub fn spoil(panel: Panel, step: Step, store: &mut [u32]) {
+pub fn spoil(panel: Panel, step: Step, store: &mut [u32])
+    ensures { λ _. ⌜ length (now (store .exit)) ≡ length (now (store .entry)) ⌝ }
+{
     let kind = draw(step, 60, 9);
     spoil_words(panel, step, kind, spoilt_number(panel, step, kind), store);
 }
@@ -115,7 +119,9 @@ fn spoil_size(step: Step, store: &mut [u32]) {
 }
 
 // Words 0 to 3 as make wrote them.
-pub fn mend_sizes(panel: Panel, store: &mut [u32]) {
+pub fn mend_sizes(panel: Panel, store: &mut [u32])
+    ensures { λ _. ⌜ length (now (store .exit)) ≡ length (now (store .entry)) ⌝ }
+{
     put(store, 0, 0x504b_0001);
     put(store, 1, panel.order);
     put(store, 2, panel.k);

@@ -1,3 +1,5 @@
+ghost use Prim.Native.Nat.{_≤_};
+ghost use mathlib.Core.Path.{_≡_};
 // 01's number of the refusal, 0 for none, and the values beside it.
 pub struct Answer {
     pub number: u32,
@@ -5,7 +7,9 @@ pub struct Answer {
     pub second: u32,
 }
 
-pub fn refused(number: u32) -> Answer {
+pub fn refused(number: u32) -> Answer
+    ensures { λ r. ⌜ r .number ≡ number ⌝ }
+{
     Answer {
         number,
         first: 0,
@@ -13,7 +17,9 @@ pub fn refused(number: u32) -> Answer {
     }
 }
 
-pub fn too_short(needed: u32) -> Answer {
+pub fn too_short(needed: u32) -> Answer
+    ensures { λ r. ⌜ r .number ≡ 9 ⌝ }
+{
     Answer {
         number: 9,
         first: needed,
@@ -21,7 +27,9 @@ pub fn too_short(needed: u32) -> Answer {
     }
 }
 
-pub fn answered(first: u32, second: u32) -> Answer {
+pub fn answered(first: u32, second: u32) -> Answer
+    ensures { λ r. ⌜ r .number ≡ 0 ⌝ }
+{
     Answer {
         number: 0,
         first,
@@ -29,7 +37,9 @@ pub fn answered(first: u32, second: u32) -> Answer {
     }
 }
 
-pub fn done() -> Answer {
+pub fn done() -> Answer
+    ensures { λ r. ⌜ r .number ≡ 0 ⌝ }
+{
     answered(0, 0)
 }
 
@@ -37,7 +47,9 @@ pub fn equal(a: Answer, b: Answer) -> bool {
     a.number == b.number && a.first == b.first && a.second == b.second
 }
 
-pub fn number_of(yes: bool) -> u32 {
+pub fn number_of(yes: bool) -> u32
+    ensures { λ r. ⌜ r ≤ 1 ⌝ }
+{
     if yes {
         return 1;
     }

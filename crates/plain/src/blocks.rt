@@ -1,5 +1,7 @@
 // 01 "Blocks": the entries of a set's image, its instantiated blocks and, at level 0, its pixels. They stand behind the plain set's codes:
 // word 65 is their number; then level and code of each, in no order.
+ghost use mathlib.Core.Path.{_≡_};
+ghost use lib.ListN.{length};
 use crate::codes::last_code;
 use crate::codes::quarter;
 use crate::panel::Panel;
@@ -28,13 +30,15 @@ fn note(plain: &mut [u32], level: u32, code: u32) {
     add_one(plain, 65);
 }
 
-pub fn work_out(panel: Panel, plain: &mut [u32]) {
+pub fn work_out(panel: Panel, plain: &mut [u32])
+    ensures { λ _. ⌜ length (now (plain .exit)) ≡ length (now (plain .entry)) ⌝ }
+{
     put(plain, 65, 0);
     given_by(panel, panel.order, 0, plain);
 }
 
 // How many elements this block gives to the block around it. A block without a pixel is cut off here.
-pub fn given_by(panel: Panel, level: u32, code: u32, plain: &mut [u32]) -> u32 {
+fn given_by(panel: Panel, level: u32, code: u32, plain: &mut [u32]) -> u32 {
     if number_between(plain, code, last_code(level, code)) == 0 {
         return gathered(panel, level, code, 0, plain);
     }

@@ -1,4 +1,5 @@
 // The plain set program's answers: what 01 says of each call on a sound store.
+ghost use Prim.Native.Nat.{_≤_};
 use crate::answer::Answer;
 use crate::answer::answered;
 use crate::answer::done;
@@ -28,7 +29,9 @@ pub fn off_panel(panel: Panel, x: u32, y: u32) -> bool {
     side_of(panel.order) <= x || side_of(panel.order) <= y
 }
 
-pub fn make(panel: Panel, length: usize, plain: &mut [u32]) -> Answer {
+pub fn make(panel: Panel, length: usize, plain: &mut [u32]) -> Answer
+    ensures { λ r. ⌜ r .number ≤ 2 ⌝ }
+{
     if !within_limits(panel) {
         return refused(1);
     }
@@ -40,7 +43,9 @@ pub fn make(panel: Panel, length: usize, plain: &mut [u32]) -> Answer {
     done()
 }
 
-pub fn mark(panel: Panel, x: u32, y: u32, plain: &mut [u32]) -> Answer {
+pub fn mark(panel: Panel, x: u32, y: u32, plain: &mut [u32]) -> Answer
+    ensures { λ r. ⌜ r .number ≤ 6 ⌝ }
+{
     if off_panel(panel, x, y) {
         return refused(4);
     }
@@ -55,7 +60,9 @@ pub fn mark(panel: Panel, x: u32, y: u32, plain: &mut [u32]) -> Answer {
     done()
 }
 
-pub fn clear(panel: Panel, x: u32, y: u32, plain: &mut [u32]) -> Answer {
+pub fn clear(panel: Panel, x: u32, y: u32, plain: &mut [u32]) -> Answer
+    ensures { λ r. ⌜ r .number ≤ 7 ⌝ }
+{
     if off_panel(panel, x, y) {
         return refused(4);
     }
@@ -67,7 +74,9 @@ pub fn clear(panel: Panel, x: u32, y: u32, plain: &mut [u32]) -> Answer {
     done()
 }
 
-pub fn ask(panel: Panel, x: u32, y: u32, plain: &[u32]) -> Answer {
+pub fn ask(panel: Panel, x: u32, y: u32, plain: &[u32]) -> Answer
+    ensures { λ r. ⌜ r .number ≤ 4 ⌝ }
+{
     if off_panel(panel, x, y) {
         return refused(4);
     }
@@ -84,7 +93,9 @@ pub fn ask(panel: Panel, x: u32, y: u32, plain: &[u32]) -> Answer {
 }
 
 // 4, 8 or none of them (0).
-pub fn window_refusal(panel: Panel, window: Window) -> u32 {
+pub fn window_refusal(panel: Panel, window: Window) -> u32
+    ensures { λ r. ⌜ r ≤ 8 ⌝ }
+{
     if off_panel(panel, window.x0, window.y0) || off_panel(panel, window.x1, window.y1) {
         return 4;
     }
@@ -94,7 +105,9 @@ pub fn window_refusal(panel: Panel, window: Window) -> u32 {
     0
 }
 
-pub fn count(panel: Panel, window: Window, plain: &[u32]) -> Answer {
+pub fn count(panel: Panel, window: Window, plain: &[u32]) -> Answer
+    ensures { λ r. ⌜ r .number ≤ 8 ⌝ }
+{
     let refusal = window_refusal(panel, window);
     if refusal != 0 {
         return refused(refusal);
@@ -103,13 +116,9 @@ pub fn count(panel: Panel, window: Window, plain: &[u32]) -> Answer {
 }
 
 // The output has this length; the words written are put into `output`.
-pub fn list(
-    panel: Panel,
-    window: Window,
-    length: u32,
-    plain: &[u32],
-    output: &mut [u32],
-) -> Answer {
+pub fn list(panel: Panel, window: Window, length: u32, plain: &[u32], output: &mut [u32]) -> Answer
+    ensures { λ r. ⌜ r .number ≤ 9 ⌝ }
+{
     let counted = count(panel, window, plain);
     if counted.number != 0 {
         return counted;
@@ -121,7 +130,9 @@ pub fn list(
     counted
 }
 
-pub fn save(panel: Panel, length: u32, plain: &[u32], output: &mut [u8]) -> Answer {
+pub fn save(panel: Panel, length: u32, plain: &[u32], output: &mut [u8]) -> Answer
+    ensures { λ r. ⌜ r .number ≤ 9 ⌝ }
+{
     let needed = image_length(plain);
     if length < needed {
         return too_short(needed);

@@ -1,4 +1,6 @@
 // 01 "The image", from the entries.
+ghost use mathlib.Core.Path.{_≡_};
+ghost use lib.ListN.{length};
 use crate::blocks::entry_code;
 use crate::blocks::entry_number;
 use crate::blocks::level_of;
@@ -12,7 +14,9 @@ pub fn image_length(plain: &[u32]) -> u32 {
     product_and(entry_number(plain), 5, 10)
 }
 
-pub fn write_image(panel: Panel, plain: &[u32], bytes: &mut [u8]) {
+pub fn write_image(panel: Panel, plain: &[u32], bytes: &mut [u8])
+    ensures { λ _. ⌜ length (now (bytes .exit)) ≡ length (now (bytes .entry)) ⌝ }
+{
     put_byte(bytes, 0, panel.order);
     put_byte(bytes, 1, panel.k);
     put_four_bytes(bytes, 2, entry_number(plain));

@@ -1,4 +1,5 @@
 // Load's answer of the plain set program: the candidate is the set of the level 0 codes, and the image must be that set's.
+ghost use Prim.Native.Nat.{_≤_};
 use crate::answer::Answer;
 use crate::answer::done;
 use crate::answer::refused;
@@ -15,7 +16,9 @@ use crate::words::narrow;
 use crate::words::place;
 use crate::words::product_and;
 
-pub fn load(panel: Panel, image: &[u8], plain: &mut [u32]) -> Answer {
+pub fn load(panel: Panel, image: &[u8], plain: &mut [u32]) -> Answer
+    ensures { λ r. ⌜ r .number ≤ 12 ⌝ }
+{
     let number = header_refusal(panel, image);
     if number != 0 {
         return refused(number);
@@ -31,7 +34,9 @@ pub fn load(panel: Panel, image: &[u8], plain: &mut [u32]) -> Answer {
 }
 
 // The first bytes, as many as `length`, are the image.
-pub fn load_first(panel: Panel, length: u32, bytes: &[u8], plain: &mut [u32]) -> Answer {
+pub fn load_first(panel: Panel, length: u32, bytes: &[u8], plain: &mut [u32]) -> Answer
+    ensures { λ r. ⌜ r .number ≤ 12 ⌝ }
+{
     let end = place(length);
     if bytes.len() < end {
         return refused(10);
@@ -40,7 +45,9 @@ pub fn load_first(panel: Panel, length: u32, bytes: &[u8], plain: &mut [u32]) ->
 }
 
 // 10, 11 or none of them (0).
-fn header_refusal(panel: Panel, image: &[u8]) -> u32 {
+fn header_refusal(panel: Panel, image: &[u8]) -> u32
+    ensures { λ r. ⌜ r ≤ 11 ⌝ }
+{
     if image.len() < 10 || !is_length(image.len(), four_bytes(image, 2)) {
         return 10;
     }

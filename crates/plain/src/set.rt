@@ -1,4 +1,6 @@
 // The plain set: word 0 is the number of codes, the codes follow in no order; at most 64.
+ghost use mathlib.Core.Path.{_≡_};
+ghost use lib.ListN.{length};
 use crate::words::add_one;
 use crate::words::product_and;
 use crate::words::put;
@@ -33,7 +35,9 @@ pub fn holds(set: &[u32], code: u32) -> bool {
 }
 
 // Adds a code that the set lacks, while there is room.
-pub fn add(set: &mut [u32], code: u32) {
+pub fn add(set: &mut [u32], code: u32)
+    ensures { λ _. ⌜ length (now (set .exit)) ≡ length (now (set .entry)) ⌝ }
+{
     if holds(set, code) || 64 <= number(set) {
         return;
     }
@@ -42,7 +46,9 @@ pub fn add(set: &mut [u32], code: u32) {
 }
 
 // The last code takes the place of the one that is removed.
-pub fn remove(set: &mut [u32], code: u32) {
+pub fn remove(set: &mut [u32], code: u32)
+    ensures { λ _. ⌜ length (now (set .exit)) ≡ length (now (set .entry)) ⌝ }
+{
     for i in 0..number(set) {
         remove_at(set, i, code);
     }

@@ -1,3 +1,5 @@
+ghost use mathlib.Core.Path.{_≡_};
+ghost use lib.ListN.{length};
 use crate::blocks::entry_code;
 use crate::blocks::entry_number;
 use crate::blocks::level_of;
@@ -62,7 +64,9 @@ pub fn opened_by(plain: &[u32], window: Window) -> u32 {
 }
 
 // Each found code at its place: as many words from the front as there are lower ones.
-pub fn write_found(plain: &[u32], window: Window, output: &mut [u32]) {
+pub fn write_found(plain: &[u32], window: Window, output: &mut [u32])
+    ensures { λ _. ⌜ length (now (output .exit)) ≡ length (now (output .entry)) ⌝ }
+{
     for i in 0..entry_number(plain) {
         write_if_found(plain, i, window, output);
     }

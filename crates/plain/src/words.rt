@@ -1,10 +1,17 @@
 // Words and bytes by a 32-bit index: past the end nothing is read (zero) and nothing written.
+ghost use Prim.Native.Nat.{_≤_};
+ghost use mathlib.Core.Path.{_≡_};
+ghost use lib.ListN.{length};
 
-pub fn place(at: u32) -> usize {
+pub fn place(at: u32) -> usize
+    ensures { λ r. ⌜ r ≡ at ⌝ }
+{
     at as usize
 }
 
-pub fn narrow(length: usize) -> u32 {
+pub fn narrow(length: usize) -> u32
+    ensures { λ r. ⌜ r ≤ length ⌝ }
+{
     if 4294967295 < length {
         return 4294967295;
     }
@@ -19,7 +26,9 @@ pub fn word(words: &[u32], at: u32) -> u32 {
     words[i]
 }
 
-pub fn put(words: &mut [u32], at: u32, value: u32) {
+pub fn put(words: &mut [u32], at: u32, value: u32)
+    ensures { λ _. ⌜ length (now (words .exit)) ≡ length (now (words .entry)) ⌝ }
+{
     let i = place(at);
     if words.len() <= i {
         return;
@@ -27,7 +36,9 @@ pub fn put(words: &mut [u32], at: u32, value: u32) {
     words[i] = value;
 }
 
-pub fn add_one(words: &mut [u32], at: u32) {
+pub fn add_one(words: &mut [u32], at: u32)
+    ensures { λ _. ⌜ length (now (words .exit)) ≡ length (now (words .entry)) ⌝ }
+{
     let value = word(words, at);
     put(words, at, std::num::wrapping_add_u32(value, 1));
 }
@@ -48,7 +59,9 @@ pub fn byte(bytes: &[u8], at: u32) -> u32 {
     wide(bytes[i])
 }
 
-pub fn put_byte(bytes: &mut [u8], at: u32, value: u32) {
+pub fn put_byte(bytes: &mut [u8], at: u32, value: u32)
+    ensures { λ _. ⌜ length (now (bytes .exit)) ≡ length (now (bytes .entry)) ⌝ }
+{
     let i = place(at);
     if bytes.len() <= i {
         return;
@@ -80,7 +93,9 @@ pub fn four_bytes(bytes: &[u8], at: u32) -> u32 {
     product_and(high, 65536, low)
 }
 
-pub fn put_four_bytes(bytes: &mut [u8], at: u32, value: u32) {
+pub fn put_four_bytes(bytes: &mut [u8], at: u32, value: u32)
+    ensures { λ _. ⌜ length (now (bytes .exit)) ≡ length (now (bytes .entry)) ⌝ }
+{
     put_byte(bytes, at, value);
     put_byte(bytes, product_and(at, 1, 1), value / 256);
     put_byte(bytes, product_and(at, 1, 2), value / 65536);
@@ -88,7 +103,9 @@ pub fn put_four_bytes(bytes: &mut [u8], at: u32, value: u32) {
 }
 
 // The first words of one, as many as `number`, to the other from `at` on.
-pub fn copy_words(from: &[u32], number: u32, to: &mut [u32], at: u32) {
+pub fn copy_words(from: &[u32], number: u32, to: &mut [u32], at: u32)
+    ensures { λ _. ⌜ length (now (to .exit)) ≡ length (now (to .entry)) ⌝ }
+{
     for i in 0..number {
         put(to, product_and(i, 1, at), word(from, i));
     }
@@ -104,7 +121,9 @@ pub fn differing_word(a: &[u32], b: &[u32], start: u32, low: u32, high: u32) -> 
     high
 }
 
-pub fn differing_byte(a: &[u8], b: &[u8], number: u32) -> u32 {
+pub fn differing_byte(a: &[u8], b: &[u8], number: u32) -> u32
+    ensures { λ r. ⌜ r ≤ number ⌝ }
+{
     for i in 0..number {
         if byte(a, i) != byte(b, i) {
             return i;

@@ -1,4 +1,6 @@
 // The plain, and what is printed on a difference.
+ghost use mathlib.Core.Path.{_≡_};
+ghost use lib.ListN.{length};
 use draws::Step;
 use plain::answer::Answer;
 use plain::answer::equal;
@@ -57,19 +59,25 @@ pub fn stopped(plain: &[u32]) -> bool {
 }
 
 // An accepted call that brought the set to this number.
-pub fn count_reached(got: Answer, number: u32, end: u32, total: u32, plain: &mut [u32]) {
+pub fn count_reached(got: Answer, number: u32, end: u32, total: u32, plain: &mut [u32])
+    ensures { λ _. ⌜ length (now (plain .exit)) ≡ length (now (plain .entry)) ⌝ }
+{
     if got.number == 0 && number == end {
         add_one(plain, total);
     }
 }
 
-pub fn compare(step: Step, call: u32, got: Answer, want: Answer, plain: &mut [u32]) {
+pub fn compare(step: Step, call: u32, got: Answer, want: Answer, plain: &mut [u32])
+    ensures { λ _. ⌜ length (now (plain .exit)) ≡ length (now (plain .entry)) ⌝ }
+{
     add_one(plain, CALLS);
     add_one(plain, product_and(got.number, 1, ANSWERS));
     expect(step, call, got, want, plain);
 }
 
-pub fn expect(step: Step, call: u32, got: Answer, want: Answer, plain: &mut [u32]) {
+pub fn expect(step: Step, call: u32, got: Answer, want: Answer, plain: &mut [u32])
+    ensures { λ _. ⌜ length (now (plain .exit)) ≡ length (now (plain .entry)) ⌝ }
+{
     if equal(got, want) {
         return;
     }
@@ -80,14 +88,9 @@ pub fn expect(step: Step, call: u32, got: Answer, want: Answer, plain: &mut [u32
     io::write_all(1, b"\n");
 }
 
-pub fn compare_words(
-    step: Step,
-    call: u32,
-    got: &[u32],
-    want: &[u32],
-    low: u32,
-    plain: &mut [u32],
-) {
+pub fn compare_words(step: Step, call: u32, got: &[u32], want: &[u32], low: u32, plain: &mut [u32])
+    ensures { λ _. ⌜ length (now (plain .exit)) ≡ length (now (plain .entry)) ⌝ }
+{
     let number = narrow(got.len());
     let at = differing_word(got, want, 0, low, number);
     if number <= at {
@@ -99,7 +102,9 @@ pub fn compare_words(
 }
 
 // The store from `low` on, with what was kept of it.
-pub fn compare_store(step: Step, call: u32, store: &[u32], low: u32, plain: &mut [u32]) {
+pub fn compare_store(step: Step, call: u32, store: &[u32], low: u32, plain: &mut [u32])
+    ensures { λ _. ⌜ length (now (plain .exit)) ≡ length (now (plain .entry)) ⌝ }
+{
     let number = narrow(store.len());
     let at = differing_word(store, plain, STORE_KEPT, low, number);
     if number <= at {
@@ -114,7 +119,9 @@ pub fn compare_store(step: Step, call: u32, store: &[u32], low: u32, plain: &mut
     );
 }
 
-pub fn compare_bytes(step: Step, call: u32, got: &[u8], want: &[u8], plain: &mut [u32]) {
+pub fn compare_bytes(step: Step, call: u32, got: &[u8], want: &[u8], plain: &mut [u32])
+    ensures { λ _. ⌜ length (now (plain .exit)) ≡ length (now (plain .entry)) ⌝ }
+{
     let number = narrow(got.len());
     let at = differing_byte(got, want, number);
     if number <= at {
