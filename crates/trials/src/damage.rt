@@ -1,24 +1,24 @@
 // Damaged stores through all calls: what 01 fixes of them is compared.
-use crate::damaged_calls;
-use crate::damaged_loads;
-use crate::draws::Step;
-use crate::draws::draw;
-use crate::histories::make_as;
-use crate::histories::panel_drawn;
-use crate::histories::walk;
-use crate::panel::Panel;
-use crate::panel::words_needed;
-use crate::report::LENGTH;
-use crate::report::STORE_KEPT;
-use crate::report::print_total;
-use crate::report::print_totals;
-use crate::report::stopped;
-use crate::spoiling::mend_sizes;
-use crate::spoiling::spoil;
-use crate::words::copy_words;
-use crate::words::narrow;
-use crate::words::place;
-use crate::words::product_and;
+use differential::damaged_calls;
+use differential::damaged_loads;
+use differential::steps::make;
+use differential::steps::walk;
+use draws::Step;
+use draws::draw;
+use draws::panels::panel_drawn;
+use draws::spoiling::mend_sizes;
+use draws::spoiling::spoil;
+use plain::panel::Panel;
+use plain::panel::words_needed;
+use plain::words::copy_words;
+use plain::words::narrow;
+use plain::words::place;
+use plain::words::product_and;
+use report::LENGTH;
+use report::STORE_KEPT;
+use report::print_total;
+use report::print_totals;
+use report::stopped;
 
 pub fn run_all(seeds: u32, calls: u32) {
     let mut plain = [0u32; LENGTH];
@@ -49,7 +49,7 @@ fn run_seed(seed: u32, calls: u32, store: &mut [u32], plain: &mut [u32]) {
 }
 
 fn run_damaged(panel: Panel, seed: u32, calls: u32, store: &mut [u32], plain: &mut [u32]) {
-    make_as(panel, Step { seed, number: 0 }, store, plain);
+    make(panel, Step { seed, number: 0 }, store, plain);
     walk(panel, seed, 0, 48, store, plain);
     spoil(panel, Step { seed, number: 48 }, store);
     walk_damaged(panel, seed, calls, store, plain);

@@ -1,37 +1,16 @@
 // Histories: from make on, calls drawn, on a store of just the words that the formula asks for.
-use crate::calls;
-use crate::draws::Step;
-use crate::draws::draw;
-use crate::panel::Panel;
-use crate::panel::words_needed;
-use crate::plain_calls;
-use crate::report::LENGTH;
-use crate::report::MAKE;
-use crate::report::PAST;
-use crate::report::compare;
-use crate::report::compare_words;
-use crate::report::print_totals;
-use crate::report::stopped;
-use crate::steps::check;
-use crate::steps::compare_image;
-use crate::steps::run;
-use crate::words::place;
-use crate::words::product_and;
-
-// Every m with every k once in 240 seeds; N from 1 to 44, one time in four up to 6.
-pub fn panel_drawn(seed: u32) -> Panel {
-    let start = Step { seed, number: 0 };
-    let most = if draw(start, 80, 4) == 0 {
-        draw(start, 81, 6)
-    } else {
-        draw(start, 82, 44)
-    };
-    Panel {
-        order: product_and(seed % 16, 1, 1),
-        k: product_and(seed / 16 % 15, 1, 2),
-        most: product_and(most, 1, 1),
-    }
-}
+use differential::steps::make;
+use differential::steps::walk;
+use draws::Step;
+use draws::panels::panel_drawn;
+use plain::panel::Panel;
+use plain::panel::words_needed;
+use plain::words::place;
+use report::LENGTH;
+use report::PAST;
+use report::compare_words;
+use report::print_totals;
+use report::stopped;
 
 pub fn run_all(number: u32, calls: u32) {
     let mut plain = [0u32; LENGTH];
@@ -85,7 +64,7 @@ fn make_short(panel: Panel, step: Step, store: &mut [u32], plain: &mut [u32]) {
         return;
     }
     let end = length - 1;
-    make_as(panel, step, &mut store[..end], plain);
+    make(panel, step, &mut store[..end], plain);
 }
 
 // Make with numbers beyond their limits, on a store too short by a word, and as it should be.
@@ -123,32 +102,7 @@ fn start(panel: Panel, seed: u32, store: &mut [u32], plain: &mut [u32]) {
             most: 65536,
         },
     };
-    make_as(beyond, step, store, plain);
+    make(beyond, step, store, plain);
     make_short(panel, step, store, plain);
-    make_as(panel, step, store, plain);
-}
-
-pub fn make_as(panel: Panel, step: Step, store: &mut [u32], plain: &mut [u32]) {
-    let length = store.len();
-    let got = calls::make(store, panel);
-    let want = plain_calls::make(panel, length, plain);
-    compare(step, MAKE, got, want, plain);
-}
-
-// The calls from `low` to `high`.
-pub fn walk(panel: Panel, seed: u32, low: u32, high: u32, store: &mut [u32], plain: &mut [u32]) {
-    for number in low..high {
-        let step = Step { seed, number };
-        run(panel, step, store, plain);
-        compare_whole(panel, step, store, plain);
-    }
-}
-
-// After every 64th call the whole image and check are compared.
-fn compare_whole(panel: Panel, step: Step, store: &[u32], plain: &mut [u32]) {
-    if step.number % 64 != 63 {
-        return;
-    }
-    compare_image(panel, step, store, plain);
-    check(step, store, plain);
+    make(panel, step, store, plain);
 }

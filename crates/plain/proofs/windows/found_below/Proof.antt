@@ -1,0 +1,27 @@
+-- `plain::windows::found_below` ends: the index rises to the bound.
+use Prim.Native.Nat.{ℕ, _-_, _≤_}
+use borrow.Author.Needs.{needs}
+use Rattle.plain.proofs.windows.found_below.Statement.{statement}
+use Rattle.plain.proofs.windows.found_below.Tie as tie
+
+abbrev Inv-loop : tie.InvT-loop
+Inv-loop plain window last found₀ i₀ i-end found i = i ≤ i-end
+
+abbrev μ-loop : tie.MeasureT-loop
+μ-loop plain window last found₀ i₀ i-end found i = i-end - i
+
+pub found-below-spec : {M : Type 1} → statement M
+found-below-spec =
+    tie.close
+    (tie.spec
+    Inv-loop
+    μ-loop
+    (λ c κs. search needs)
+    (λ c. search needs)
+    (λ c κs. search needs)
+    (λ c κs. search needs)
+    (λ c κs. search needs)
+    (λ c. search needs)
+    (λ c. search needs)
+    (λ c. search needs)
+    (λ c. search needs))

@@ -1,0 +1,27 @@
+-- `plain::windows::opened_by` ends: the index rises to the bound.
+use Prim.Native.Nat.{ℕ, _-_, _≤_}
+use borrow.Author.Needs.{needs}
+use Rattle.plain.proofs.windows.opened_by.Statement.{statement}
+use Rattle.plain.proofs.windows.opened_by.Tie as tie
+
+abbrev Inv-loop : tie.InvT-loop
+Inv-loop plain window opened₀ i₀ i-end opened i = i ≤ i-end
+
+abbrev μ-loop : tie.MeasureT-loop
+μ-loop plain window opened₀ i₀ i-end opened i = i-end - i
+
+pub opened-by-spec : {M : Type 1} → statement M
+opened-by-spec =
+    tie.close
+    (tie.spec
+    Inv-loop
+    μ-loop
+    (λ c κs. search needs)
+    (λ c. search needs)
+    (λ c κs. search needs)
+    (λ c κs. search needs)
+    (λ c κs. search needs)
+    (λ c. search needs)
+    (λ c. search needs)
+    (λ c. search needs)
+    (λ c. search needs))
