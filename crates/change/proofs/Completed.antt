@@ -1,12 +1,12 @@
 -- The change has come to rest: the store is that of a register again.
-use Prim.Native.Nat.{ℕ, zero, suc, _+_, _-_, _*_, _/_, _^_, _≤_, _<_}
+use Prim.Native.Nat.{ℕ, zero, suc, _+_, _^_, _≤_, _<_}
 use native.Mathlib.Omega.{arith}
 use native.Mathlib.Decide.{ℕ-discrete}
-use mathlib.Core.Path.{_≡_, refl, ap, ap₂, subst, sym, _∙_}
-use mathlib.Core.Logic.{_⊎_, inl, inr}
+use mathlib.Core.Path.{_≡_, refl, ap, subst, sym, _∙_}
+use mathlib.Core.Logic.{_⊎_}
 use mathlib.Core.List.{List, [], _∷_, _++_, append-nil}
 use lib.ListN.{length, length-append}
-use Rattle.pktree.specs.Elements.{Forest, empty, pixel, block, _⧺_, size}
+use Rattle.pktree.specs.Elements.{block, size}
 use Rattle.pktree.specs.Tree.{pixels}
 use Rattle.pktree.proofs.Forests.{blockCount, blockCount-join}
 use Rattle.pktree.proofs.Arranged.{LocallyRight}

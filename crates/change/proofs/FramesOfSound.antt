@@ -1,21 +1,19 @@
 -- On a sound store the blocks of the way to a block are right, and stand in their slots.
-use Prim.Native.Nat.{ℕ, zero, suc, _+_, _*_, _^_, _≤_, _<_}
-use native.Mathlib.Omega.{arith}
-use mathlib.Core.Path.{_≡_, refl, ap, subst, sym, _∙_}
+use Prim.Native.Nat.{ℕ, suc, _+_, _^_, _≤_}
+use mathlib.Core.Path.{_≡_, refl, subst}
 use mathlib.Core.Logic.{_⊎_, inl, inr}
-use mathlib.Core.List.{List, [], _∷_, _++_}
+use mathlib.Core.List.{List, [], _∷_}
 use lib.ListN.{getD}
 use Rattle.pktree.specs.Elements.{Forest, empty, pixel, block, _⧺_, size}
 use Rattle.pktree.proofs.Arranged.{Arranged, LocallyRight}
 use Rattle.store.specs.Sizes.{slotWidth, slotCount}
-use Rattle.store.specs.Placed.{Placed, nothing, blockThen, _⧻_, forestOf, slotsOf}
+use Rattle.store.specs.Placed.{Placed, nothing, blockThen, _⧻_, forestOf}
 use Rattle.store.specs.Sound.{Sound}
-use Rattle.store.proofs.Standing.{Stands}
 use Rattle.store.proofs.PlacedJoin.{forest-join, stands-parts}
-use Rattle.store.proofs.SoundView.{SoundView, sound-view}
-use Rattle.store.proofs.BlockView.{BlockView, ChildView, child-view, root-view}
+use Rattle.store.proofs.SoundView.{sound-view}
+use Rattle.store.proofs.BlockView.{BlockView, child-view, root-view}
 use Rattle.descent.specs.Way.{Frame, plug}
-use Rattle.change.proofs.Frames.{FrameRight, FramesRight}
+use Rattle.change.proofs.Frames.{FramesRight}
 use Rattle.change.proofs.FramesStand.{says-any, FramesStand}
 
 -- arranged elements around a block

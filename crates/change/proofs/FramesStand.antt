@@ -1,7 +1,6 @@
 -- The blocks around the one that is changed stand in their slots, and with it the whole tree does.
-use Prim.Native.Nat.{ℕ, zero, suc, _+_, _*_, _^_, _≤_, _<_}
-use native.Mathlib.Omega.{arith}
-use mathlib.Core.Path.{_≡_, refl, ap, ap₂, subst, sym, _∙_}
+use Prim.Native.Nat.{ℕ, _*_, _<_}
+use mathlib.Core.Path.{_≡_, ap, subst, sym, _∙_}
 use mathlib.Core.List.{List, [], _∷_, _++_}
 use lib.ListN.{take}
 use Rattle.pktree.specs.Lists.{Every}
@@ -10,7 +9,7 @@ use Rattle.store.specs.Slot.{slotPart, elementPart}
 use Rattle.store.specs.Placed.{Placed, nothing, blockThen, _⧻_, forestOf, slotsOf}
 use Rattle.store.proofs.Standing.{elementWords, SlotSays, Stands, frame, every-left, every-right}
 use Rattle.store.proofs.PlacedJoin.{words-join, size-placed-join, stands-join}
-use Rattle.descent.specs.Way.{Frame, plug}
+use Rattle.descent.specs.Way.{Frame}
 use Rattle.change.proofs.Frames.{FramesRight, rootElements}
 use Rattle.change.proofs.SlotCounts.{waySlots}
 

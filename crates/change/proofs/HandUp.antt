@@ -1,12 +1,12 @@
 -- What a block hands to the block around it: the change goes on one block further up.
-use Prim.Native.Nat.{ℕ, zero, suc, _+_, _-_, _*_, _/_, _^_, _≤_, _<_}
+use Prim.Native.Nat.{ℕ, zero, suc, _+_, _-_, _*_, _^_, _≤_, _<_}
 use native.Mathlib.Omega.{arith}
-use mathlib.Core.Path.{_≡_, refl, ap, ap₂, subst, sym, _∙_}
-use mathlib.Core.Logic.{_⊎_, inl, inr}
-use mathlib.Core.List.{List, [], _∷_, _++_, append-assoc}
+use mathlib.Core.Path.{_≡_, refl, ap, subst, sym, _∙_}
+use mathlib.Core.Logic.{inr}
+use mathlib.Core.List.{List, [], _∷_, _++_}
 use Rattle.pktree.specs.Panel.{Aligned}
 use Rattle.pktree.specs.PixelSet.{member}
-use Rattle.pktree.specs.Elements.{Forest, empty, pixel, block, _⧺_, size, gather}
+use Rattle.pktree.specs.Elements.{Forest, block, _⧺_, size}
 use Rattle.pktree.specs.Tree.{pixels}
 use Rattle.pktree.proofs.Forests.{size-join, pixels-join}
 use Rattle.pktree.proofs.Arranged.{quarterLevel, Arranged, LocallyRight}
@@ -14,14 +14,13 @@ use Rattle.pktree.proofs.LocalLaw.{local-is-gather}
 use Rattle.pktree.proofs.Sizes.{size-gather-any}
 use Rattle.pktree.proofs.Regroup.{Disturbed}
 use Rattle.pktree.proofs.Edits.{dissolve}
-use Rattle.store.specs.Slot.{slotPart}
 use Rattle.store.specs.Placed.{Placed, nothing, blockThen, _⧻_, forestOf, slotsOf}
 use Rattle.store.specs.FreeSlots.{FreeSlots, occurrences}
-use Rattle.store.proofs.Standing.{SlotSays, Stands}
+use Rattle.store.proofs.Standing.{Stands}
 use Rattle.store.proofs.PlacedJoin.{forest-join, slots-join, size-placed-join, stands-join}
 use Rattle.store.proofs.FreeChains.{occurrences-join}
 use Rattle.descent.specs.Way.{Frame, plug}
-use Rattle.change.proofs.Frames.{FrameRight, FramesRight, frame-holds, level-above}
+use Rattle.change.proofs.Frames.{FrameRight, frame-holds}
 use Rattle.change.proofs.SlotCounts.{waySlots, shared-moves}
 use Rattle.change.proofs.FramesStand.{FramesStand}
 use Rattle.change.proofs.Pending.{Setting, widthIn, slotsIn, Around, Pending}

@@ -1,26 +1,22 @@
 -- A change on its way up: what holds before a block of the way is changed, and what its change leaves.
-use Prim.Native.Nat.{ℕ, zero, suc, _+_, _-_, _*_, _/_, _^_, _≤_, _<_}
+use Prim.Native.Nat.{ℕ, suc, _+_, _-_, _*_, _≤_, _<_}
 use native.Mathlib.Omega.{arith}
-use mathlib.Core.Path.{_≡_, refl, ap, ap₂, subst, sym, _∙_}
-use mathlib.Core.Logic.{_⊎_, inl, inr}
-use mathlib.Core.List.{List, [], _∷_, _++_, append-assoc}
-use lib.ListN.{length, getD, take, drop}
+use mathlib.Core.Path.{_≡_, subst, sym}
+use mathlib.Core.Logic.{_⊎_}
+use mathlib.Core.List.{List, _∷_, _++_, append-assoc}
+use lib.ListN.{length}
 use Rattle.pktree.specs.Lists.{Every}
-use Rattle.pktree.specs.Panel.{Aligned}
-use Rattle.pktree.specs.Elements.{Forest, empty, pixel, block, _⧺_, size}
+use Rattle.pktree.specs.Elements.{size}
 use Rattle.pktree.specs.Tree.{pixels}
-use Rattle.pktree.proofs.Forests.{size-join, pixels-join, blockCount}
-use Rattle.pktree.proofs.Alignment.{blockCode}
-use Rattle.pktree.proofs.Arranged.{quarterLevel, Arranged, LocallyRight}
+use Rattle.pktree.proofs.Arranged.{quarterLevel, LocallyRight}
 use Rattle.pktree.proofs.Regroup.{Disturbed}
 use Rattle.store.specs.declared.sizes.Layout.{Layout}
 use Rattle.store.specs.Sizes.{slotWidth, slotCount}
 use Rattle.store.specs.Slot.{slotPart, OnlySlot}
-use Rattle.store.specs.Placed.{Placed, nothing, pixelThen, blockThen, _⧻_, forestOf, slotsOf}
+use Rattle.store.specs.Placed.{Placed, _⧻_, forestOf, slotsOf}
 use Rattle.store.specs.FreeSlots.{FreeSlots, occurrences}
 use Rattle.store.specs.Sound.{SlotsShared}
-use Rattle.store.proofs.Standing.{SlotSays, Stands, frame, every-left, every-right}
-use Rattle.store.proofs.PlacedJoin.{forest-join, slots-join, size-placed-join, stands-join}
+use Rattle.store.proofs.Standing.{SlotSays, Stands, frame, every-right}
 use Rattle.store.proofs.SlotWrites.{word-in-front}
 use Rattle.store.proofs.FreeChains.{absent, every-map, free-kept, occurrences-same, occurrences-join}
 use Rattle.descent.specs.Way.{Frame, plug}

@@ -1,25 +1,23 @@
 -- The run that is found in a slot's words is the one that the regroup law wants, so the block it becomes makes the elements right again.
-use Prim.Native.Nat.{ℕ, zero, suc, _+_, _-_, _*_, _/_, _^_, _≤_, _<_}
+use Prim.Native.Nat.{ℕ, zero, suc, _+_, _-_, _*_, _^_, _≤_, _<_}
 use native.Mathlib.Omega.{arith}
-use native.Mathlib.Nat.{div-eq-of-lt-le, div-mul-le-self}
+use native.Mathlib.Nat.{div-eq-of-lt-le}
 use native.Mathlib.Decide.{decLt}
 use mathlib.Core.Path.{_≡_, refl, ap, ap₂, subst, sym, _∙_}
-use mathlib.Core.List.{List, [], _∷_, _++_}
-use lib.ListN.{length, getD, List·getD-append}
+use mathlib.Core.List.{List, _++_}
+use lib.ListN.{getD, List·getD-append}
 use lib.Seq.{getD-append-add}
-use Rattle.pktree.specs.Panel.{Aligned}
 use Rattle.pktree.specs.Elements.{Forest, empty, pixel, block, _⧺_, size}
-use Rattle.pktree.specs.Tree.{pixels}
-use Rattle.pktree.proofs.Forests.{size-join, pixels-join}
-use Rattle.pktree.proofs.Alignment.{pow-pos, blockCode, blockCode-aligned, blockCode-le, blockCode-lt}
+use Rattle.pktree.proofs.Forests.{size-join}
+use Rattle.pktree.proofs.Alignment.{blockCode, blockCode-le, blockCode-lt}
 use Rattle.pktree.proofs.Arranged.{Arranged, LocallyRight}
-use Rattle.pktree.proofs.Regroup.{countAround, Disturbed, Formed, formed, nothing-to-form}
+use Rattle.pktree.proofs.Regroup.{countAround, Disturbed, formed, nothing-to-form}
 use Rattle.pktree.proofs.Absurd.{zero-is-not-one}
 use Rattle.store.specs.Splice.{codeAt}
 use Rattle.store.specs.Placed.{Placed, nothing, pixelThen, blockThen, _⧻_, forestOf}
 use Rattle.store.proofs.Standing.{SlotSays}
-use Rattle.store.proofs.PlacedJoin.{forest-join, size-placed-join}
-use Rattle.runs.specs.Run.{Near, codesFrom, countNear, IsRun, RunFormed}
+use Rattle.store.proofs.PlacedJoin.{forest-join}
+use Rattle.runs.specs.Run.{Near, codesFrom, countNear, IsRun}
 use Rattle.change.proofs.FramesOfSound.{around-block}
 use Rattle.runs.proofs.SlotCodes.{codesOf, length-codes, codes-join, slot-code, slot-codes, count-near, code-in-range, near-at-least}
 

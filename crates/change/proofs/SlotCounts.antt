@@ -1,11 +1,11 @@
 -- Slots moved about: what counts is how often each slot is in a list.
-use Prim.Native.Nat.{ℕ, zero, suc, _+_, _≤_, _<_}
+use Prim.Native.Nat.{ℕ, _+_, _≤_, _<_}
 use native.Mathlib.Omega.{arith}
 use native.Mathlib.Decide.{decLt}
-use mathlib.Core.Path.{_≡_, refl, ap, sym, _∙_}
+use mathlib.Core.Path.{_≡_, refl, ap, _∙_}
 use mathlib.Core.List.{List, [], _∷_, _++_}
 use Rattle.pktree.specs.Lists.{Every}
-use Rattle.store.specs.Placed.{Placed, nothing, blockThen, _⧻_, slotsOf}
+use Rattle.store.specs.Placed.{Placed, blockThen, _⧻_, slotsOf}
 use Rattle.store.specs.FreeSlots.{occurrences}
 use Rattle.store.specs.Sound.{SlotsShared}
 use Rattle.store.proofs.FreeChains.{occurrences-same, occurrences-other, occurrences-join}

@@ -1,11 +1,10 @@
 -- What one look at the elements of a block says, on any words.
-use Prim.Native.Nat.{ℕ, suc, _+_, _*_, _^_, _/_, _≤_, _<_}
+use Prim.Native.Nat.{ℕ, suc, _^_, _/_, _<_}
 use mathlib.Core.Path.{_≡_}
 use mathlib.Core.Bool.{Bool, true, false}
 use mathlib.Core.List.{List}
-use lib.ListN.{getD}
 use Rattle.store.specs.Element.{elementAt}
-use Rattle.store.specs.Splice.{codeAt, PlaceOf}
+use Rattle.store.specs.Splice.{PlaceOf}
 use Rattle.store.specs.declared.elements.Element.{Element}
 use Rattle.store.specs.declared.elements.Element.the-variants.{Pixel, Block}
 use Rattle.descent.specs.declared.Ahead.{Ahead}

@@ -1,9 +1,9 @@
 -- Elements that stand in order, with every block among them right inside: what the local law asks of a block.
-use Prim.Native.Nat.{ℕ, zero, suc, _+_, _*_, _/_, _^_, _≤_, _<_}
+use Prim.Native.Nat.{ℕ, zero, suc, _+_, _*_, _^_, _≤_, _<_}
 use native.Mathlib.Omega.{arith}
 use native.Mathlib.Decide.{decLt}
-use mathlib.Core.Path.{_≡_, refl, ap, ap₂, sym, _∙_}
-use mathlib.Core.Bool.{Bool, true, false, _||_, or-assoc}
+use mathlib.Core.Path.{_≡_, refl, ap₂, sym, _∙_}
+use mathlib.Core.Bool.{false, _||_, or-assoc}
 use mathlib.Core.List.{List, [], _∷_, _++_}
 use lib.Dec.{eqb}
 use borrow.Author.Tests.{ne-eqb}
@@ -13,7 +13,7 @@ use Rattle.pktree.specs.Elements.{Forest, empty, pixel, block, _⧺_, si
 use Rattle.pktree.specs.Tree.{pixels}
 use Rattle.pktree.proofs.Forests.{pixels-join}
 use Rattle.pktree.proofs.Alignment.{pow-pos, aligned-multiple, blocks-nest}
-use Rattle.pktree.proofs.Counting.{indicator, countIn, Sparse, countIn-join, indicator-in, indicator-low, indicator-high}
+use Rattle.pktree.proofs.Counting.{countIn, Sparse, countIn-join, indicator-in, indicator-low, indicator-high}
 
 -- the level of the quarters of a block
 abbrev pub quarterLevel : ℕ → ℕ

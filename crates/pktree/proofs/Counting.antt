@@ -1,5 +1,5 @@
 -- How many of some elements lie in an aligned block; an element counts once, be it a pixel or a block.
-use Prim.Native.Nat.{ℕ, zero, suc, _+_, _*_, _/_, _^_, _≤_, _<_}
+use Prim.Native.Nat.{ℕ, _+_, _*_, _/_, _^_, _≤_, _<_}
 use native.Mathlib.Omega.{arith}
 use native.Mathlib.Nat.{div-eq-of-lt-le, div-mul-le-self, lt-div-mul-add}
 use mathlib.Core.Path.{_≡_, refl, ap, sym, _∙_}

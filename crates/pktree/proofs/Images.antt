@@ -1,8 +1,8 @@
 -- An image has length 10 + 5e and bytes below 256, and tells m, k and the set.
-use Prim.Native.Nat.{ℕ, zero, suc, _+_, _*_, _/_, _%_, _^_, _≤_, _<_}
+use Prim.Native.Nat.{ℕ, suc, _+_, _*_, _/_, _%_, _^_, _≤_, _<_}
 use native.Mathlib.Omega.{arith}
-use native.Mathlib.Nat.{pow-le-pow-right, div-div-eq-div-mul, mod-eq-of-lt, mod-lt, lt-of-lt-of-le}
-use mathlib.Core.Path.{_≡_, refl, ap, ap₂, sym, subst, _∙_}
+use native.Mathlib.Nat.{pow-le-pow-right, div-div-eq-div-mul, mod-eq-of-lt, lt-of-lt-of-le}
+use mathlib.Core.Path.{_≡_, refl, ap, ap₂, sym, _∙_}
 use mathlib.Core.Logic.{_↔_}
 use mathlib.Core.Bool.{Bool}
 use mathlib.Core.List.{List, [], _∷_, _++_}
@@ -11,7 +11,7 @@ use lib.Seq.{take-at, drop-at}
 use Rattle.pktree.specs.Lists.{Every}
 use Rattle.pktree.specs.Panel.{Panel, Valid}
 use Rattle.pktree.specs.PixelSet.{member, PixelSet}
-use Rattle.pktree.specs.Tree.{tree, pixels}
+use Rattle.pktree.specs.Tree.{tree}
 use Rattle.pktree.specs.Entries.{Entry, entry, entries, pixelEntries}
 use Rattle.pktree.specs.Image.{fourBytes, codeBytes, levelBytes, header, arrays, image}
 use Rattle.pktree.proofs.Pixels.{pixels-of-set}

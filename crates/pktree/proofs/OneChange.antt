@@ -1,12 +1,12 @@
 -- ONE CHANGE: where two sets differ only at x, blocks that do not hold x have the same elements, and are instantiated in both or in neither;
 -- along the blocks that hold x only what the quarter around x gives is another.
-use Prim.Native.Nat.{ℕ, zero, suc, _+_, _*_, _^_, _≤_, _<_}
+use Prim.Native.Nat.{ℕ, suc, _+_, _*_, _^_, _≤_, _<_}
 use native.Mathlib.Omega.{arith}
 use native.Mathlib.Decide.{decLt}
-use mathlib.Core.Path.{_≡_, refl, ap, subst, sym, _∙_}
+use mathlib.Core.Path.{_≡_, refl, ap, subst, _∙_}
 use mathlib.Core.Bool.{Bool}
 use mathlib.Core.Logic.{_⊎_}
-use Rattle.pktree.specs.Panel.{Panel, Block}
+use Rattle.pktree.specs.Panel.{Panel}
 use Rattle.pktree.specs.Elements.{Forest, empty, _⧺_, size, give, gather}
 use Rattle.pktree.specs.Tree.{Instantiated}
 use Rattle.pktree.proofs.Forests.{join-assoc, join-empty}

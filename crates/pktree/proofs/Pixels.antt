@@ -1,5 +1,5 @@
 -- The pixels of a tree are the marked codes of the panel, ascending; so a tree tells its set.
-use Prim.Native.Nat.{ℕ, zero, suc, _+_, _*_, _^_, _≤_, _<_}
+use Prim.Native.Nat.{ℕ, zero, suc, _+_, _^_, _≤_, _<_}
 use native.Mathlib.Omega.{arith}
 use native.Mathlib.Nat.{eq-or-lt-of-le, add-suc, add-zero, suc-add, zero-add}
 use mathlib.Core.Path.{_≡_, refl, ap, ap₂, subst, sym, _∙_}
@@ -10,7 +10,7 @@ use borrow.Author.Tests.{ne-eqb, eq-eqb}
 use Rattle.pktree.specs.Lists.{Every}
 use Rattle.pktree.specs.Panel.{Panel, OnPanel}
 use Rattle.pktree.specs.PixelSet.{member, Ascending, PixelSet}
-use Rattle.pktree.specs.Elements.{Forest, empty, pixel, block, _⧺_, gather}
+use Rattle.pktree.specs.Elements.{Forest, empty, pixel, _⧺_, gather}
 use Rattle.pktree.specs.Tree.{tree, pixels}
 use Rattle.pktree.proofs.Forests.{pixels-join, gather-induction}
 

@@ -1,6 +1,6 @@
 -- 01 "Blocks": the elements of a block, gathered from its four quarters.
 use Prim.Native.Nat.{ℕ, zero, suc, _+_, _*_, _^_}
-use mathlib.Core.Bool.{Bool, true, false, cond}
+use mathlib.Core.Bool.{Bool, cond}
 use lib.Dec.{ltb}
 
 -- elements in ascending order: nothing; a pixel by its code, and what follows it;

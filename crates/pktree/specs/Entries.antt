@@ -1,5 +1,5 @@
 -- 01 "The image": the entries of a set are its pixels, at level 0, and its instantiated blocks.
-use Prim.Native.Nat.{ℕ, zero}
+use Prim.Native.Nat.{ℕ}
 use mathlib.Core.Bool.{cond}
 use mathlib.Core.List.{List, [], _∷_, _++_}
 use lib.Dec.{eqb}

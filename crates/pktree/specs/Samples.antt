@@ -5,7 +5,7 @@ use mathlib.Core.List.{List, [], _∷_}
 use Rattle.morton.specs.Code.{interleave, codeOf}
 use Rattle.pktree.specs.Panel.{Panel}
 use Rattle.pktree.specs.PixelSet.{member}
-use Rattle.pktree.specs.Elements.{Forest, size, gather}
+use Rattle.pktree.specs.Elements.{size, gather}
 use Rattle.pktree.specs.Tree.{tree}
 use Rattle.pktree.specs.Entries.{Entry, entry, entries}
 

@@ -1,10 +1,11 @@
 -- What the descent finds is what ask answers.
-use Prim.Native.Nat.{ℕ, suc, _+_, _^_, _<_}
+use Prim.Native.Nat.{ℕ, suc, _+_}
 use native.Mathlib.Omega.{arith}
 use mathlib.Core.Path.{_≡_, refl, ap, ap₂, subst, sym, _∙_}
 use mathlib.Core.Bool.{true, false}
 use mathlib.Core.List.{List}
 use lib.ListN.{getD}
+use Rattle.pktree.specs.Panel.{OnPanel}
 use Rattle.pktree.specs.PixelSet.{member}
 use Rattle.pktree.specs.Tree.{tree}
 use Rattle.pktree.specs.Window.{openedByPixel}
@@ -19,12 +20,11 @@ use Rattle.store.specs.Placed.{forestOf}
 use Rattle.descent.specs.declared.Located.{Located}
 use Rattle.descent.specs.Located.{LocateMeets}
 use Rattle.descent.proofs.OpenedByPixel.{opened-by-pixel, marked-exactly}
-use Rattle.query.specs.declared.ask.Asked.{Asked}
 use Rattle.query.specs.declared.ask.Asked.the-variants.{Known, Damaged}
 use Rattle.query.specs.Asking.{AskAnswer}
 
 module _ (words : List ℕ) (code : ℕ) (sizes : Sizes) (layout : Layout) (slots places : List ℕ) (r : Located) (usable : UsableStore words) (sizes-are : sizes ≡ sizesOf words) (laid : LaidOut sizes layout)
-    (on : code < 4 ^ sizes .order) (m : LocateMeets words layout (sizes .order) code slots places r) where
+    (on : OnPanel (panelOf sizes) code) (m : LocateMeets words layout (sizes .order) code slots places r) where
   layout-is : layout ≡ layoutOf (sizesOf words)
   layout-is = laid .is ∙ ap layoutOf sizes-are
 

@@ -44,7 +44,7 @@ whole-tree words window set holds ordered on =
     ap (λ (l : List ℕ). tree panel (member l)) (sym (holds .set-is)) ∙ sym (holds .sound .is-tree) ∙ ap forestOf (v .is) in
     let shares : sharesPixel window (blockOf (getD words 1 0) 0 (forestOf es)) ≡ true =
     sym (corners-decide window (getD words 1 0) 0 (forestOf es) (root .level-to) (root .aligned) (root .ends) ordered)
-    ∙ corners-exactly window (getD words 1 0) 0 .1 (omega (arith, first-corner, on .x-on, on .y-on)) in (
+    ∙ corners-exactly window (getD words 1 0) 0 .1 (omega (arith, first-corner, on .0, on .1)) in (
       es,
       record {
         view = root;

@@ -1,9 +1,9 @@
 -- What a window walk over a part of the tree answers.
-use Prim.Native.Nat.{ℕ, suc, _+_, _*_, _^_, _≤_, _<_}
+use Prim.Native.Nat.{ℕ, suc, _+_, _*_, _≤_, _<_}
 use mathlib.Core.Path.{_≡_}
 use mathlib.Core.List.{List}
 use lib.ListN.{length, getD}
-use Rattle.pktree.specs.Panel.{Panel}
+use Rattle.pktree.specs.Panel.{Panel, HasPixel}
 use Rattle.pktree.specs.Elements.{Forest, empty, pixel}
 use Rattle.pktree.specs.PixelSet.{member}
 use Rattle.pktree.specs.Tree.{pixels, tree as setTree}
@@ -30,9 +30,8 @@ abbrev pub foundIn : tree.Window → Forest → ℕ
 foundIn window f = length (found window (pixels f))
 
 -- the window begins on the panel, so that the root is opened; that it ends there too is not needed
-pub record BeginsOnPanel (panel : Panel) (window : tree.Window) : Type 0 where
-  pub x-on : window .x0 < 2 ^ panel .order
-  pub y-on : window .y0 < 2 ^ panel .order
+abbrev pub BeginsOnPanel : Panel → tree.Window → Type 0
+BeginsOnPanel panel window = HasPixel panel (window .x0) (window .y0)
 
 -- what every call of the walk may rely on, on any words: before its end a block adds at most 100 to what was found before it
 pub record CanCount (look : Look) (words : List ℕ) (level found opened : ℕ) : Type 0 where

@@ -1,6 +1,6 @@
-ghost use Prim.Native.Nat.{_^_, _<_};
 ghost use mathlib.Core.Path.{_≡_};
-ghost use Rattle.store.specs.Sizes.{UsableStore, sizesOf};
+ghost use Rattle.pktree.specs.Panel.{OnPanel};
+ghost use Rattle.store.specs.Sizes.{UsableStore, panelOf, sizesOf};
 ghost use Rattle.query.specs.Asking.{AskAnswer};
 use descent::locate;
 use store::sizes::Sizes;
@@ -13,7 +13,7 @@ pub enum Asked {
 
 // 01's ask, where refusals 3 and 4 do not apply: the blocks of the path are those opened.
 pub fn ask(store: &[u32], sizes: Sizes, code: u32) -> Asked
-    requires { ⌜ (UsableStore (now store) × (sizes ≡ sizesOf (now store))) × (code < 4 ^ sizes .order) ⌝ }
+    requires { ⌜ (UsableStore (now store) × (sizes ≡ sizesOf (now store))) × OnPanel (panelOf sizes) code ⌝ }
     ensures { λ r. ⌜ AskAnswer (now (store .entry)) code r ⌝ }
 {
     let layout = layout_of(sizes);

@@ -145,7 +145,7 @@ module _ (words : List ℕ) (x0 y0 x1 y1 : ℕ) where
           zeros = λ z. absurd (z refl);
           bounded = λ u. (a .bounds .found-to, a .bounds .opened-to);
           sound = λ set holds on o.
-              let e = a .sound set holds (record { x-ordered = o .0; y-ordered = o .1 }) (record { x-on = on .0 .0; y-on = on .0 .1 }) in
+              let e = a .sound set holds (record { x-ordered = o .0; y-ordered = o .1 }) (on .0) in
               let en : n ≡ length (found (windowGiven x0 y0 x1 y1) set) = cc in
               let eo : opened ≡ openedByWindow (windowGiven x0 y0 x1 y1) (tree (panelOf (sizesOf words)) (member set)) = cc in
               ap₂ accepted en eo;
@@ -158,7 +158,7 @@ module _ (words : List ℕ) (x0 y0 x1 y1 : ℕ) where
           else-answered = λ u on o. inr refl;
           zeros = λ z. (refl, refl);
           bounded = λ u. (omega arith, omega arith);
-          sound = λ set holds on o. zero-is-not-one (cc (a .sound set holds (record { x-ordered = o .0; y-ordered = o .1 }) (record { x-on = on .0 .0; y-on = on .0 .1 })));
+          sound = λ set holds on o. zero-is-not-one (cc (a .sound set holds (record { x-ordered = o .0; y-ordered = o .1 }) (on .0)));
         }
 
   module _ (before after : List ℕ) where
@@ -189,10 +189,10 @@ module _ (words : List ℕ) (x0 y0 x1 y1 : ℕ) where
             bounded = λ u. (a .bounds .0 .found-to, a .bounds .0 .opened-to);
             within = λ z. a .bounds .1;
             sound-short = λ set holds on o l.
-                let c = a .sound set holds (record { x-ordered = o .0; y-ordered = o .1 }) (record { x-on = on .0 .0; y-on = on .0 .1 }) in
+                let c = a .sound set holds (record { x-ordered = o .0; y-ordered = o .1 }) (on .0) in
                 absurd (omega (arith, c .0, c .2));
             sound = λ set holds on o l.
-                let c = a .sound set holds (record { x-ordered = o .0; y-ordered = o .1 }) (record { x-on = on .0 .0; y-on = on .0 .1 }) in
+                let c = a .sound set holds (record { x-ordered = o .0; y-ordered = o .1 }) (on .0) in
                 (ap₂ accepted (c .0) (c .1), c .3 ∙ ap (λ (i : ℕ). found (windowGiven x0 y0 x1 y1) set ++ drop i before) (zero-add (length (found (windowGiven x0 y0 x1 y1) set))));
             unchanged = λ z q. absurd (z refl);
             long = a .long;
@@ -209,10 +209,10 @@ module _ (words : List ℕ) (x0 y0 x1 y1 : ℕ) where
             bounded = λ u. (a .bounds .found-to, omega arith);
             within = λ z. absurd (omega arith);
             sound-short = λ set holds on o l.
-                let c = a .sound set holds (record { x-ordered = o .0; y-ordered = o .1 }) (record { x-on = on .0 .0; y-on = on .0 .1 }) in
+                let c = a .sound set holds (record { x-ordered = o .0; y-ordered = o .1 }) (on .0) in
                 ap (λ (i : ℕ). record { refusal = 9; first = i; second = 0 }) (c .0);
             sound = λ set holds on o l.
-                let c = a .sound set holds (record { x-ordered = o .0; y-ordered = o .1 }) (record { x-on = on .0 .0; y-on = on .0 .1 }) in
+                let c = a .sound set holds (record { x-ordered = o .0; y-ordered = o .1 }) (on .0) in
                 absurd (omega (arith, c .0, c .1));
             unchanged = λ z q. a .short n refl .0;
             long = a .long;
@@ -227,8 +227,8 @@ module _ (words : List ℕ) (x0 y0 x1 y1 : ℕ) where
             no-opened = λ z. refl;
             bounded = λ u. (omega arith, omega arith);
             within = λ z. omega arith;
-            sound-short = λ set holds on o l. absurd (a .sound set holds (record { x-ordered = o .0; y-ordered = o .1 }) (record { x-on = on .0 .0; y-on = on .0 .1 }));
-            sound = λ set holds on o l. absurd (a .sound set holds (record { x-ordered = o .0; y-ordered = o .1 }) (record { x-on = on .0 .0; y-on = on .0 .1 }));
+            sound-short = λ set holds on o l. absurd (a .sound set holds (record { x-ordered = o .0; y-ordered = o .1 }) (on .0));
+            sound = λ set holds on o l. absurd (a .sound set holds (record { x-ordered = o .0; y-ordered = o .1 }) (on .0));
             unchanged = λ z q. absurd (q refl);
             long = a .long;
           }

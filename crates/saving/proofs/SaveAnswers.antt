@@ -1,4 +1,4 @@
--- What each way out of save shows, from the numbers that the store says and a walk from the root.
+-- What each way out of save shows, from the numbers of pixels and blocks and a walk from the root.
 use Prim.Native.Nat.{ℕ, _+_, _*_, _≤_, _<_}
 use native.Mathlib.Omega.{arith}
 use mathlib.Core.Path.{_≡_, refl, subst₂, _∙_}

@@ -5,7 +5,7 @@ use mathlib.Core.List.{List, [], _∷_, _++_}
 use lib.ListN.{length, getD, drop, set}
 use lib.Seq.{sets}
 use Rattle.pktree.specs.Elements.{Forest, empty, pixel, block}
-use Rattle.pktree.specs.Entries.{Entry, entry, entries}
+use Rattle.pktree.specs.Entries.{Entry, entries}
 use Rattle.pktree.specs.Image.{fourBytes, image}
 use Rattle.store.specs.Placed.{Placed, forestOf}
 use Rattle.store.specs.Sizes.{panelOf, slotWidth, slotCount, sizesOf}

@@ -75,12 +75,11 @@ pub fn save_block(
     requires { ⌜ CanSave saving (now store) slot level (now output) at ⌝ }
     ensures { λ r. ⌜ SaveMeets saving (now (store .entry)) slot level code (now (output .entry)) (now (output .exit)) at r ⌝ }
 {
-    let layout = saving.layout;
     let entries = saving.entries;
     if entries <= at {
         return Saved::Damaged;
     }
-    let part = slot_part(store, layout, slot);
+    let part = slot_part(store, saving.layout, slot);
     let Opening::Elements(count) = open_part(part, level, code) else {
         return Saved::Damaged;
     };
@@ -88,8 +87,7 @@ pub fn save_block(
     let mut next = at + 1;
     let mut i = 0;
     while i < count {
-        let element = element_at(part, i);
-        let saved = match element {
+        let saved = match element_at(part, i) {
             Element::Pixel(pixel) => save_pixel(output, entries, next, pixel),
             Element::Block {
                 slot: s,
@@ -147,7 +145,7 @@ pub enum Imaged {
     Unreadable,
 }
 
-// 01's save, where refusal 3 does not apply: the store says how many entries there are, then a walk writes each once and finds as many.
+// 01's save, where refusal 3 does not apply: the entries are counted, then a walk writes each once and finds as many.
 pub fn save(store: &[u32], sizes: Sizes, output: &mut [u8]) -> Imaged
     requires { ⌜ UsableStore (now store) × (sizes ≡ sizesOf (now store)) ⌝ }
     ensures { λ r. ⌜ SaveAnswer (now (store .entry)) (now (output .entry)) (now (output .exit)) r ⌝ }

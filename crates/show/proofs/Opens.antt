@@ -5,21 +5,20 @@ use native.Mathlib.Nat.{eq-or-lt-of-le}
 use mathlib.Core.Path.{_≡_, refl, ap, subst, sym, _∙_}
 use mathlib.Core.Logic.{_⊎_, inl, inr}
 use mathlib.Core.Bool.{Bool, true, false, _&&_}
-use mathlib.Core.List.{List, []}
+use mathlib.Core.List.{List}
 use lib.Dec.{leb}
 use lib.ListN.{length, getD}
 use borrow.Author.Tests.{leb-true}
 use Rattle.pktree.proofs.Absurd.{zero-is-not-one}
 use Rattle.store.specs.declared.sizes.Sizes.{Sizes}
-use Rattle.store.specs.Sizes.{panelOf, slotCount, slotWidth, storeWords, ValidSizes, sizesOf, UsableStore}
-use Rattle.store.specs.Sound.{Holds}
-use Rattle.image.specs.Judged.{WellFormed, FitsRegister, ImageOfSome}
+use Rattle.store.specs.Sizes.{panelOf, storeWords, ValidSizes, sizesOf, UsableStore}
+use Rattle.image.specs.Judged.{FitsRegister, ImageOfSome}
 use Rattle.loading.specs.Loaded.{HasImage}
 use Rattle.register.specs.declared.Outcome.{Outcome}
 use Rattle.register.specs.Answer.{Answer, answer}
 use Rattle.register.specs.Make.{MakeMeets}
 use Rattle.register.specs.Load.{LoadMeets}
-use Rattle.show.specs.Shown.{sizesShown, LengthOut, Begun, ShowMeets}
+use Rattle.show.specs.Shown.{sizesShown, LengthOut, ShowMeets}
 
 -- a test of all numbers below n holds of each
 allTrue : (ℕ → Bool) → ℕ → Bool

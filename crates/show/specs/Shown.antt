@@ -1,7 +1,7 @@
 -- 01 "Program pkshow": under 2 or over 4,010 bytes 10; else a register with the image's m and k and N = 400, and load.
-use Prim.Native.Nat.{ℕ, _≤_, _<_}
+use Prim.Native.Nat.{ℕ, _<_}
 use mathlib.Core.Path.{_≡_}
-use mathlib.Core.Logic.{_⊎_, _↔_}
+use mathlib.Core.Logic.{_⊎_}
 use mathlib.Core.List.{List}
 use lib.ListN.{length, getD}
 use Rattle.store.specs.declared.sizes.Sizes.{Sizes}

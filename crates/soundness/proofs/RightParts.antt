@@ -3,7 +3,7 @@ use Prim.Native.Nat.{ℕ, zero, suc, _-_, _≤_, _<_}
 use native.Mathlib.Omega.{arith}
 use mathlib.Core.Path.{_≡_, refl, ap, ap₂, sym, _∙_}
 use mathlib.Core.Bool.{true, _&&_, and-assoc}
-use mathlib.Core.List.{List, [], _∷_, _++_, append-nil}
+use mathlib.Core.List.{List, [], append-nil}
 use borrow.Author.Tests.{le-leb, leb-true}
 use Rattle.pktree.specs.Elements.{Forest, empty, pixel, block, _⧺_, size}
 use Rattle.pktree.proofs.LocalTest.{heads, slotTest, insideTest, both}

@@ -21,7 +21,7 @@ use Rattle.soundness.specs.declared.walk.Limits.{Limits}
 use Rattle.soundness.specs.declared.walk.Seen.{Seen}
 use Rattle.soundness.specs.declared.walk.Walked.the-variants.{Broken}
 use Rattle.soundness.specs.Pass.{entryOf, PassMeets}
-use Rattle.soundness.specs.Walk.{WithinLimits, seenWith, StandsRight, BlockAt, Names, claimed, WalkElementMeets}
+use Rattle.soundness.specs.Walk.{WithinLimits, seenWith, StandsRight, BlockAt, Names, WalkElementMeets}
 use Rattle.soundness.proofs.ElementNames.{names-head}
 use Rattle.soundness.proofs.OneReading.{Begins, begins}
 use Rattle.soundness.proofs.RightParts.{right-parts}

@@ -1,12 +1,12 @@
 -- The words of joined elements, cut at an element.
 use Prim.Native.Nat.{ℕ, _+_, _*_}
 use native.Mathlib.Omega.{arith}
-use mathlib.Core.Path.{_≡_, refl, ap, ap₂, sym, _∙_}
-use mathlib.Core.List.{List, [], _∷_, _++_}
-use lib.ListN.{length, take, drop}
+use mathlib.Core.Path.{_≡_, ap, ap₂, sym, _∙_}
+use mathlib.Core.List.{List, _∷_, _++_}
+use lib.ListN.{take, drop}
 use lib.Seq.{take-at, drop-at, drop-drop}
 use Rattle.pktree.specs.Elements.{size}
-use Rattle.store.specs.Placed.{Placed, nothing, blockThen, _⧻_, forestOf}
+use Rattle.store.specs.Placed.{Placed, blockThen, _⧻_, forestOf}
 use Rattle.store.proofs.Standing.{elementWords}
 use Rattle.store.proofs.PlacedJoin.{words-join, length-element-words}
 use Rattle.rewrite.specs.Rewrite.{blockWords, runWords, withBlock}

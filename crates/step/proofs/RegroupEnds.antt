@@ -1,10 +1,10 @@
 -- The two ends of `regroup`: a block is formed and the change is at rest, or the rest is handed up.
-use Prim.Native.Nat.{ℕ, suc, _+_, _-_, _*_, _≤_, _<_}
+use Prim.Native.Nat.{ℕ, _+_, _≤_, _<_}
 use native.Mathlib.Omega.{arith}
 use mathlib.Core.Path.{_≡_, refl, ap, subst, sym, _∙_}
 use mathlib.Core.Logic.{_⊎_, inl, inr}
 use mathlib.Core.List.{List, [], _∷_}
-use lib.ListN.{length, getD, take, set}
+use lib.ListN.{getD, take, set}
 use lib.Seq.{take-set-le, take-take}
 use Rattle.pktree.specs.Elements.{size}
 use Rattle.pktree.proofs.Alignment.{blockCode}
@@ -15,12 +15,12 @@ use Rattle.store.specs.Slot.{OnlySlot}
 use Rattle.store.specs.Placed.{Placed, forestOf}
 use Rattle.store.proofs.SlotWrites.{take-less}
 use Rattle.descent.specs.Way.{Frame}
-use Rattle.rewrite.specs.declared.Forming.the-variants.{Formed, NoSlot}
+use Rattle.rewrite.specs.declared.Forming.the-variants.{NoSlot}
 use Rattle.rewrite.specs.Rewrite.{HandedUpBlock, BlockFormed, FormMeets}
 use Rattle.change.proofs.RunLaw.{FormedAt}
 use Rattle.change.proofs.Pending.{Setting, Laid}
 use Rattle.change.proofs.Completed.{Completed}
-use Rattle.step.specs.declared.Stepped.the-variants.{Done, Up, Damaged}
+use Rattle.step.specs.declared.Stepped.the-variants.{Up}
 use Rattle.step.specs.Step.{Kept, SteppedRight}
 use Rattle.step.proofs.StepLaws.{up-with-block, formed-size, never-without-slot, at-rest-with-block}
 

@@ -1,42 +1,38 @@
 -- One step of a change, on the words of a register: what each of its parts ensures leaves the change at rest, or pending one block up.
-use Prim.Native.Nat.{ℕ, zero, suc, _+_, _-_, _*_, _/_, _^_, _≤_, _<_}
+use Prim.Native.Nat.{ℕ, zero, suc, _+_, _*_, _^_, _≤_, _<_}
 use native.Mathlib.Omega.{arith}
 use mathlib.Core.Path.{_≡_, refl, ap, ap₂, subst, sym, _∙_}
 use mathlib.Core.Logic.{_⊎_, inl, inr}
-use mathlib.Core.Bool.{Bool, true, false}
 use mathlib.Core.List.{List, [], _∷_, _++_}
 use lib.ListN.{length, getD, take, drop, set}
 use Rattle.pktree.specs.Lists.{Every}
-use Rattle.pktree.specs.Elements.{Forest, empty, pixel, block, _⧺_, size}
+use Rattle.pktree.specs.Elements.{Forest, block, _⧺_, size}
 use Rattle.pktree.specs.Tree.{pixels}
 use Rattle.pktree.proofs.Forests.{size-join, pixels-join, blockCount, blockCount-join}
 use Rattle.pktree.proofs.Alignment.{blockCode}
 use Rattle.pktree.proofs.Arranged.{quarterLevel, Arranged, LocallyRight}
-use Rattle.pktree.proofs.Regroup.{Disturbed}
-use Rattle.store.specs.Slot.{slotPart, levelWord, codeWord, countWord, nextWord, OnlySlot}
+use Rattle.store.specs.Slot.{slotPart, levelWord, nextWord}
 use Rattle.store.specs.Splice.{elementsIn, CanSplice}
 use Rattle.store.specs.Layout.{LayoutFits}
-use Rattle.store.specs.Placed.{Placed, nothing, pixelThen, blockThen, _⧻_, forestOf, slotsOf}
-use Rattle.store.specs.FreeSlots.{FreeSlots, Released, occurrences, TookFree}
-use Rattle.store.specs.declared.free.FreeSlot.the-variants.{Taken, Missing}
-use Rattle.store.specs.Sound.{SlotsShared}
+use Rattle.store.specs.Placed.{Placed, blockThen, _⧻_, forestOf, slotsOf}
+use Rattle.store.specs.FreeSlots.{FreeSlots, occurrences}
 use Rattle.store.proofs.Standing.{elementWords, SlotSays, Stands, frame, every-left, every-right}
-use Rattle.store.proofs.PlacedJoin.{forest-join, slots-join, size-placed-join, stands-join, stands-parts, placed-assoc, placed-nothing}
+use Rattle.store.proofs.PlacedJoin.{forest-join, slots-join, size-placed-join, stands-join, stands-parts}
 use Rattle.store.proofs.SlotWrites.{HeadWritten, word-in-front}
 use Rattle.store.proofs.Usable.{slot-long}
 use Rattle.store.proofs.BlockView.{elements-lie}
-use Rattle.store.proofs.FreeChains.{absent, every-map, chain-released, free-kept, first-taken, none-free, occurrences-join, occurrences-same}
-use Rattle.descent.specs.Way.{Frame, plug}
+use Rattle.store.proofs.FreeChains.{absent, every-map, free-kept, first-taken, none-free, occurrences-join, occurrences-same}
+use Rattle.descent.specs.Way.{Frame}
 use Rattle.runs.specs.Run.{codesFrom, countNear}
-use Rattle.rewrite.specs.Rewrite.{SlotNow, SplicedSlot, blockWords, runWords, withBlock, HandedUpBlock, HandedUpAll, BlockFormed}
+use Rattle.rewrite.specs.Rewrite.{SplicedSlot, blockWords, runWords, withBlock, HandedUpBlock, HandedUpAll, BlockFormed}
 use Rattle.rewrite.proofs.SlotNows.{says-now, now-says, spliced-now}
-use Rattle.change.proofs.Frames.{FramesRight, frames-level}
-use Rattle.change.proofs.FramesStand.{FramesStand, frames-kept}
+use Rattle.change.proofs.Frames.{frames-level}
+use Rattle.change.proofs.FramesStand.{frames-kept}
 use Rattle.change.proofs.SlotCounts.{waySlots, shared-moves}
 use Rattle.change.proofs.RunLaw.{FormedAt, no-run}
 use Rattle.change.proofs.Pending.{Setting, widthIn, slotsIn, Around, Pending, Laid, slot-below, way-elsewhere, elements-elsewhere, free-elsewhere, around-kept}
-use Rattle.change.proofs.HandUp.{LeftOver, handed-up, plug-pixels}
-use Rattle.change.proofs.Completed.{Completed, AtRest, completed, slot-for-block}
+use Rattle.change.proofs.HandUp.{handed-up, plug-pixels}
+use Rattle.change.proofs.Completed.{Completed, completed, slot-for-block}
 use Rattle.step.specs.Step.{PendingAbove}
 use Rattle.step.proofs.PlacedWords.{spliced-words, middle-words, block-words}
 

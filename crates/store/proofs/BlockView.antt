@@ -3,16 +3,14 @@ use Prim.Native.Nat.{ℕ, zero, suc, _+_, _*_, _/_, _%_, _^_, _≤_, _<_}
 use native.Mathlib.Omega.{arith}
 use native.Mathlib.Nat.{pow-le-pow-right, le-trans}
 use mathlib.Core.Path.{_≡_, refl, ap, ap₂, subst, sym, _∙_}
-use mathlib.Core.List.{List, [], _∷_, _++_}
-use lib.ListN.{length, getD, take, drop, length-take}
-use lib.Seq.{getD-drop, getD-take, getD-append-add, length-take-le}
+use mathlib.Core.List.{List}
+use lib.ListN.{length, getD, take, length-take}
+use lib.Seq.{getD-drop, getD-take, getD-append-add}
 use Rattle.pktree.specs.Lists.{Every}
 use Rattle.pktree.specs.Panel.{Aligned}
 use Rattle.pktree.specs.Elements.{Forest, empty, pixel, block, _⧺_, size}
-use Rattle.pktree.proofs.Forests.{blockCount}
 use Rattle.pktree.proofs.Alignment.{aligned-root}
 use Rattle.pktree.proofs.Arranged.{Arranged, LocallyRight, arranged-le}
-use Rattle.store.specs.declared.elements.Element.{Element}
 use Rattle.store.specs.declared.elements.Element.the-variants.{Pixel, Block}
 use Rattle.store.specs.Sizes.{slotCount, slotWidth}
 use Rattle.store.specs.Slot.{slotPart, elementPart}

@@ -1,10 +1,10 @@
 -- Placed elements joined: what each reading of them says of the two parts.
-use Prim.Native.Nat.{ℕ, zero, suc, _+_, _*_, _≤_, _<_}
+use Prim.Native.Nat.{ℕ, _+_, _*_}
 use native.Mathlib.Omega.{arith}
-use mathlib.Core.Path.{_≡_, refl, ap, sym, _∙_}
-use mathlib.Core.List.{List, [], _∷_, _++_, append-assoc}
-use lib.ListN.{length, length-append}
-use Rattle.pktree.specs.Elements.{Forest, _⧺_, size}
+use mathlib.Core.Path.{_≡_, refl, ap, _∙_}
+use mathlib.Core.List.{List, _++_, append-assoc}
+use lib.ListN.{length}
+use Rattle.pktree.specs.Elements.{_⧺_, size}
 use Rattle.pktree.proofs.Forests.{size-join}
 use Rattle.store.specs.Placed.{Placed, nothing, pixelThen, blockThen, _⧻_, forestOf, slotsOf}
 use Rattle.store.proofs.Standing.{elementWords, Stands}

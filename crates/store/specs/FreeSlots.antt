@@ -1,5 +1,5 @@
 -- The slots that are available: a chain from word 7, each naming the next in its word 3, FFFFFFFF at the end. A free slot has level 0.
-use Prim.Native.Nat.{ℕ, _+_, _*_, _≤_, _<_}
+use Prim.Native.Nat.{ℕ, _+_, _*_, _<_}
 use mathlib.Core.Path.{_≡_}
 use mathlib.Core.List.{List, [], _∷_}
 use lib.Dec.{eqb}

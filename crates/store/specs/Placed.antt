@@ -1,5 +1,5 @@
 -- A forest whose every block has a slot.
-use Prim.Native.Nat.{ℕ, suc, _+_, _*_}
+use Prim.Native.Nat.{ℕ}
 use mathlib.Core.List.{List, [], _∷_, _++_}
 use Rattle.pktree.specs.Elements.{Forest, empty, pixel, block}
 

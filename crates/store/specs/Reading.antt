@@ -1,7 +1,7 @@
 -- 01: the one written definition that reads the words as a tree. It looks at the slots only, takes each block from a slot of its own,
 -- with just the elements that this slot's words name, and works none out from the pixels.
 use Prim.Native.Nat.{ℕ, zero, suc, _/_, _%_}
-use mathlib.Core.Bool.{Bool, true, false, _&&_, cond}
+use mathlib.Core.Bool.{_&&_, cond}
 use mathlib.Core.Option.{Option, none, some}
 use mathlib.Core.List.{List, [], _∷_}
 use lib.Dec.{eqb}

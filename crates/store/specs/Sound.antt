@@ -1,12 +1,11 @@
 -- 01: when a store is sound.
 use Prim.Native.Nat.{ℕ, _≤_, _<_}
 use mathlib.Core.Path.{_≡_}
-use mathlib.Core.Option.{Option, some}
+use mathlib.Core.Option.{some}
 use mathlib.Core.List.{List, _++_}
 use lib.ListN.{length, getD}
 use Rattle.pktree.specs.Lists.{Every}
 use Rattle.pktree.specs.PixelSet.{member}
-use Rattle.pktree.specs.Elements.{Forest}
 use Rattle.pktree.specs.Tree.{tree, pixels}
 use Rattle.store.specs.Sizes.{panelOf, slotCount, slotWidth, sizesOf, UsableStore}
 use Rattle.store.specs.Placed.{Placed, forestOf, slotsOf}

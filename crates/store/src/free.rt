@@ -1,6 +1,4 @@
-ghost use Prim.Native.Nat.{_+_, _*_, _≤_, _<_};
-ghost use mathlib.Core.Path.{_≡_};
-ghost use lib.ListN.{length};
+ghost use Prim.Native.Nat.{_+_, _<_};
 ghost use Rattle.store.specs.Layout.{LayoutFits};
 ghost use Rattle.store.specs.FreeSlots.{TookFree, Released};
 use crate::sizes::Layout;

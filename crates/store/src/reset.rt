@@ -1,4 +1,4 @@
-ghost use Prim.Native.Nat.{_+_, _*_, _≤_, _<_};
+ghost use Prim.Native.Nat.{_+_, _<_};
 ghost use mathlib.Core.Path.{_≡_};
 ghost use Rattle.store.specs.Sizes.{UsableStore, sizesOf};
 ghost use Rattle.store.specs.Layout.{LayoutFits};

@@ -1,8 +1,7 @@
-ghost use Prim.Native.Nat.{_+_, _*_, _≤_, _<_};
+ghost use Prim.Native.Nat.{_+_, _*_, _<_};
 ghost use mathlib.Core.Path.{_≡_};
-ghost use lib.ListN.{length};
 ghost use Rattle.store.specs.Layout.{LayoutWithin, LayoutFits, SlotOffset};
-ghost use Rattle.store.specs.Slot.{slotPart, Within};
+ghost use Rattle.store.specs.Slot.{slotPart};
 use crate::sizes::Layout;
 
 // A word as a size: the cast is proved here once.

@@ -1,5 +1,5 @@
 -- A change ends: the store on which it came to rest, with the new count, holds the set to come, and that is the set with one pixel more or less.
-use Prim.Native.Nat.{ℕ, suc, _+_, _-_, _^_, _≤_, _<_}
+use Prim.Native.Nat.{ℕ, suc, _+_, _-_, _≤_, _<_}
 use native.Mathlib.Omega.{arith}
 use mathlib.Core.Path.{_≡_, refl, ap, subst, sym, _∙_}
 use mathlib.Core.Bool.{Bool, true, false}
@@ -7,6 +7,7 @@ use mathlib.Core.Option.{some}
 use mathlib.Core.List.{List, _∷_, _++_, append-nil}
 use lib.ListN.{length, getD, take, drop, set, length-set, length-append}
 use lib.Seq.{take-set-le, drop-set-lt, getD-set-same, getD-set-other}
+use Rattle.pktree.specs.Panel.{OnPanel}
 use Rattle.pktree.specs.PixelSet.{member, PixelSet, added, removed}
 use Rattle.pktree.specs.Elements.{size}
 use Rattle.pktree.specs.Tree.{pixels}
@@ -104,7 +105,7 @@ module _ (before mid : List ℕ) (usable : UsableStore before) (code : ℕ) (tar
 pub record LookedUp (before : List ℕ) (sizes : Sizes) (layout : Layout) (code : ℕ) (slots places : List ℕ) (located : Located) : Type 0 where
   pub usable : UsableStore before
   pub sizes-are : sizes ≡ sizesOf before
-  pub on-panel : code < 4 ^ sizes .order
+  pub on-panel : OnPanel (panelOf sizes) code
   pub laid : LaidOut sizes layout
   pub meets : LocateMeets before layout (sizes .order) code slots places located
 

@@ -1,6 +1,6 @@
-ghost use Prim.Native.Nat.{_^_, _<_};
 ghost use mathlib.Core.Path.{_≡_};
-ghost use Rattle.store.specs.Sizes.{UsableStore, sizesOf};
+ghost use Rattle.pktree.specs.Panel.{OnPanel};
+ghost use Rattle.store.specs.Sizes.{UsableStore, panelOf, sizesOf};
 ghost use Rattle.update.specs.Changed.{MarkAnswer, ClearAnswer};
 use crate::propagate::propagate;
 use descent::locate;
@@ -18,7 +18,7 @@ pub enum Marking {
 
 // 01's mark, where refusals 3 and 4 do not apply. Nothing is written before every refusal is decided.
 pub fn mark(store: &mut [u32], sizes: Sizes, code: u32) -> Marking
-    requires { ⌜ (UsableStore (now store) × (sizes ≡ sizesOf (now store))) × (code < 4 ^ sizes .order) ⌝ }
+    requires { ⌜ (UsableStore (now store) × (sizes ≡ sizesOf (now store))) × OnPanel (panelOf sizes) code ⌝ }
     ensures { λ r. ⌜ MarkAnswer (now (store .entry)) (now (store .exit)) code r ⌝ }
 {
     let layout = layout_of(sizes);
@@ -57,7 +57,7 @@ pub enum Clearing {
 
 // 01's clear, where refusals 3 and 4 do not apply.
 pub fn clear(store: &mut [u32], sizes: Sizes, code: u32) -> Clearing
-    requires { ⌜ (UsableStore (now store) × (sizes ≡ sizesOf (now store))) × (code < 4 ^ sizes .order) ⌝ }
+    requires { ⌜ (UsableStore (now store) × (sizes ≡ sizesOf (now store))) × OnPanel (panelOf sizes) code ⌝ }
     ensures { λ r. ⌜ ClearAnswer (now (store .entry)) (now (store .exit)) code r ⌝ }
 {
     let layout = layout_of(sizes);

@@ -1,5 +1,4 @@
 -- `pkreg::pk_words` meets its contract: the limits are judged on the smallest panel, and the formula is store's.
-use native.Mathlib.Omega.{arith}
 use borrow.Author.Needs.{needs}
 use borrow.Author.Tests.{not-true, not-false}
 use Rattle.store.proofs.Decides.{decided-true, decided-false}

@@ -1,5 +1,5 @@
 -- `report::print_answers` ends: the index rises to the bound.
-use Prim.Native.Nat.{ℕ, _-_, _≤_}
+use Prim.Native.Nat.{_-_, _≤_}
 use borrow.Author.Needs.{needs}
 use Rattle.report.proofs.print_answers.Statement.{statement}
 use Rattle.report.proofs.print_answers.Tie as tie

@@ -82,11 +82,11 @@ save-block-returns : (t : ℕ) → save-block-lts.Need-returns (called-save-bloc
 save-block-returns t c = block-no-room (c .if1 .taken)
 
 save-block-open-part-requires : (t : ℕ) → save-block-lts.Need-open-part-requires (called-save-block t) (save-block-at t) save-block.Post save-block-Inv-loop save-block-μ-loop
-save-block-open-part-requires t c κs = let s = c .before .before .before .before .before in part-length (s .pre .1 .fits) (s .pre .1 .slot-below) (c .slot-part .ensures)
+save-block-open-part-requires t c κs = let s = c .before .before .before .before in part-length (s .pre .1 .fits) (s .pre .1 .slot-below) (c .slot-part .ensures)
 
 save-block-returns-2 : (t : ℕ) → save-block-lts.Need-returns-2 (called-save-block t) (save-block-at t) save-block.Post save-block-Inv-loop save-block-μ-loop
 save-block-returns-2 t c =
-    block-shut (c .before .before .before .before .before .before .before .before .pre .1 .fits)
+    block-shut (c .before .before .before .before .before .before .before .pre .1 .fits)
     (slot-shut (c .before .before .before .slot-part .ensures) (c .before .before .open-part .ensures) (c .enum-told .given .1))
 
 save-block-loop-holds : (t : ℕ) → save-block-lts.Need-loop-holds (called-save-block t) (save-block-at t) save-block.Post save-block-Inv-loop save-block-μ-loop
@@ -94,7 +94,7 @@ save-block-loop-holds t c = (search needs, saved-none)
 
 -- the slot is opened
 opened : (t : ℕ) (c : save-block-lts.After-count (called-save-block t) (save-block-at t) save-block.Post save-block-Inv-loop save-block-μ-loop)
-    → let a = c .before .before .before .before .before .before .before .before .args in
+    → let a = c .before .before .before .before .before .before .before .args in
     SlotOpened (a .saving .layout .width) (now (a .store)) (a .slot) (a .level) (a .code) (c .count .given .0 .0)
 opened t c = slot-opened (c .before .before .before .slot-part .ensures) (c .before .before .open-part .ensures) (c .count .given .1)
 
@@ -106,7 +106,7 @@ save-block-element-at-requires t c κs =
 -- an element is written, whichever it is
 element-written : (t : ℕ) (c : save-block-lts.At-match2-came (called-save-block t) (save-block-at t) save-block.Post save-block-Inv-loop save-block-μ-loop)
     → let loop = c .before .before .before in
-    let a = loop .before .before .before .before .before .before .before .before .before .before .before .before .before .before .args in
+    let a = loop .before .before .before .before .before .before .before .before .before .before .before .before .before .args in
     SaveElementMeets (a .saving) (now (a .store)) (c .before .element-at .result) (a .level) (loop .loop .output) (c .match2 .output) (loop .loop .next) (c .match2 .saved)
 element-written t c =
     ⊎-elim (λ w. pixel-arm (w .1 .given .1) (w .7) (w .8) (w .4 .ensures)) (λ w. child-arm (w .1 .given .1) (w .7) (w .8) (w .4 .ensures)) (c .match2 .came)
@@ -115,7 +115,7 @@ element-written t c =
 one-more : (t : ℕ) (c : save-block-lts.At-match2-came (called-save-block t) (save-block-at t) save-block.Post save-block-Inv-loop save-block-μ-loop)
     → let loop = c .before .before .before in
     let own = loop .before .before .before in
-    let a = own .before .before .before .before .before .before .before .before .before .before .before .args in
+    let a = own .before .before .before .before .before .before .before .before .before .before .args in
     SavedTo (a .saving) (now (a .store)) (a .slot) (a .level) (a .code) (own .put-entry .last .0) (c .match2 .output) (a .at + 1)
     (loop .loop .i + 1) (c .match2 .saved)
 one-more t c =

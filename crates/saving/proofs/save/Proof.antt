@@ -1,4 +1,4 @@
--- `saving::save` meets its contract: the numbers that the store says give the number of entries, and the walk from the root writes them all.
+-- `saving::save` meets its contract: the numbers of pixels and blocks give that of the entries, and the walk from the root writes them all.
 use borrow.Author.Needs.{needs}
 use native.Mathlib.Omega.{arith}
 use Rattle.store.proofs.Bounds.{slot-count-bounded}

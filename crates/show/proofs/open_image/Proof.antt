@@ -1,10 +1,8 @@
 -- `show::open_image` meets its contract: the length is judged first, then make and load.
 use native.Mathlib.Omega.{arith}
-use Prim.Native.Nat.{ℕ, _≤_}
-use mathlib.Core.Path.{_≡_, subst₂}
+use Prim.Native.Nat.{ℕ}
+use mathlib.Core.Path.{subst₂}
 use mathlib.Core.Logic.{inl, inr}
-use mathlib.Core.List.{List}
-use lib.ListN.{length, getD}
 use denote.Ref.{now}
 use borrow.Author.Needs.{needs}
 use Rattle.register.specs.Make.{MakeMeets}

@@ -1,5 +1,5 @@
 -- `show::print_entries` ends: the index rises to the number of levels.
-use Prim.Native.Nat.{ℕ, _-_, _≤_}
+use Prim.Native.Nat.{_-_, _≤_}
 use native.Mathlib.Omega.{arith}
 use borrow.Author.Needs.{needs}
 use Rattle.show.proofs.print_entries.Statement.{statement}

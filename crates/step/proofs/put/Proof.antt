@@ -1,6 +1,6 @@
 -- `step::put` meets its contract: the tests are those of a splice that can be done, and `splice_slot` does it.
 use native.Mathlib.Omega.{arith}
-use mathlib.Core.Path.{_≡_, refl, ap, _∙_}
+use mathlib.Core.Path.{refl, ap, _∙_}
 use Prim.Native.Nat.{ℕ, _+_, _-_}
 use borrow.Author.Needs.{needs}
 use Rattle.step.proofs.PutLaws.{count-at, put-can, put-cannot}

@@ -1,5 +1,5 @@
 -- `differential::damaged_calls::all_ones` ends: the index rises to the bound.
-use Prim.Native.Nat.{ℕ, _-_, _≤_}
+use Prim.Native.Nat.{_-_, _≤_}
 use borrow.Author.Needs.{needs}
 use Rattle.differential.proofs.damaged_calls.all_ones.Statement.{statement}
 use Rattle.differential.proofs.damaged_calls.all_ones.Tie as tie

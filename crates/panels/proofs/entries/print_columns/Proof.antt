@@ -1,5 +1,5 @@
 -- `panels::entries::print_columns` ends: the index rises to the number of entries.
-use Prim.Native.Nat.{ℕ, _-_, _≤_}
+use Prim.Native.Nat.{_-_, _≤_}
 use native.Mathlib.Omega.{arith}
 use borrow.Author.Needs.{needs}
 use Rattle.panels.proofs.entries.print_columns.Statement.{statement}

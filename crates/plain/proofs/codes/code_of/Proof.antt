@@ -1,5 +1,5 @@
 -- `plain::codes::code_of` ends: the index rises to the bound.
-use Prim.Native.Nat.{ℕ, _-_, _≤_}
+use Prim.Native.Nat.{_-_, _≤_}
 use borrow.Author.Needs.{needs}
 use Rattle.plain.proofs.codes.code_of.Statement.{statement}
 use Rattle.plain.proofs.codes.code_of.Tie as tie

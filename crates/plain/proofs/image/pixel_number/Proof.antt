@@ -1,5 +1,5 @@
 -- `plain::image::pixel_number` ends: the index rises to the bound.
-use Prim.Native.Nat.{ℕ, _-_, _≤_}
+use Prim.Native.Nat.{_-_, _≤_}
 use borrow.Author.Needs.{needs}
 use Rattle.plain.proofs.image.pixel_number.Statement.{statement}
 use Rattle.plain.proofs.image.pixel_number.Tie as tie

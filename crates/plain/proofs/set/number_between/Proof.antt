@@ -1,5 +1,5 @@
 -- `plain::set::number_between` ends: the index rises to the bound.
-use Prim.Native.Nat.{ℕ, _-_, _≤_}
+use Prim.Native.Nat.{_-_, _≤_}
 use borrow.Author.Needs.{needs}
 use Rattle.plain.proofs.set.number_between.Statement.{statement}
 use Rattle.plain.proofs.set.number_between.Tie as tie

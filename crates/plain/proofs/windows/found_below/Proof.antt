@@ -1,5 +1,5 @@
 -- `plain::windows::found_below` ends: the index rises to the bound.
-use Prim.Native.Nat.{ℕ, _-_, _≤_}
+use Prim.Native.Nat.{_-_, _≤_}
 use borrow.Author.Needs.{needs}
 use Rattle.plain.proofs.windows.found_below.Statement.{statement}
 use Rattle.plain.proofs.windows.found_below.Tie as tie

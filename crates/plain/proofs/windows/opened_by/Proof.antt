@@ -1,5 +1,5 @@
 -- `plain::windows::opened_by` ends: the index rises to the bound.
-use Prim.Native.Nat.{ℕ, _-_, _≤_}
+use Prim.Native.Nat.{_-_, _≤_}
 use borrow.Author.Needs.{needs}
 use Rattle.plain.proofs.windows.opened_by.Statement.{statement}
 use Rattle.plain.proofs.windows.opened_by.Tie as tie

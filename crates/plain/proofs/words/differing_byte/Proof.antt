@@ -1,5 +1,5 @@
 -- `plain::words::differing_byte` ends: the index rises to the bound.
-use Prim.Native.Nat.{ℕ, _-_, _≤_}
+use Prim.Native.Nat.{_-_, _≤_}
 use borrow.Author.Needs.{needs}
 use Rattle.plain.proofs.words.differing_byte.Statement.{statement}
 use Rattle.plain.proofs.words.differing_byte.Tie as tie

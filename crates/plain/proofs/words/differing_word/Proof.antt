@@ -1,5 +1,5 @@
 -- `plain::words::differing_word` ends: the index rises to the bound.
-use Prim.Native.Nat.{ℕ, _-_, _≤_}
+use Prim.Native.Nat.{_-_, _≤_}
 use borrow.Author.Needs.{needs}
 use Rattle.plain.proofs.words.differing_word.Statement.{statement}
 use Rattle.plain.proofs.words.differing_word.Tie as tie

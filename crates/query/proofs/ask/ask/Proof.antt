@@ -1,7 +1,6 @@
 -- `query::ask::ask` meets its contract: what `locate` ensures is the answer.
 use native.Mathlib.Omega.{arith}
 use mathlib.Core.Path.{refl, subst, sym}
-use Rattle.store.specs.declared.sizes.Sizes.{Sizes}
 use Rattle.store.specs.Sizes.{ValidSizes}
 use Rattle.store.proofs.Usable.{layout-fits}
 use Rattle.query.proofs.Asks.{asked-known, asked-damaged}
