@@ -6,7 +6,7 @@ use mathlib.Core.Path.{_≡_, refl, ap, ap₂, subst, sym, _∙_}
 use mathlib.Core.Bool.{Bool, true, false}
 use mathlib.Core.List.{List}
 use lib.ListN.{length}
-use Rattle.pktree.specs.Elements.{Forest, empty, pixel, block}
+use Rattle.pktree.specs.Elements.{empty, pixel, block}
 use Rattle.store.specs.Placed.{Placed, forestOf}
 use Rattle.store.proofs.BlockView.{ChildView}
 use Rattle.store.specs.declared.elements.Element.{Element}

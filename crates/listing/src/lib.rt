@@ -1,5 +1,5 @@
 // Listing: the walk of count, which also writes the codes that it finds.
-ghost use Prim.Native.Nat.{_+_, _*_, _≤_, _<_};
+ghost use Prim.Native.Nat.{_<_};
 ghost use mathlib.Core.Path.{_≡_};
 ghost use Rattle.query.specs.Counting.{CanCount};
 ghost use Rattle.listing.specs.Listing.{PixelListed, ListMeets, ListAnswer};

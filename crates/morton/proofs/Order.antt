@@ -9,7 +9,7 @@ use lib.Dec.{leb}
 use lib.Pow.{split}
 use lib.Bits.{bitAnd, and-block, and-zero-r}
 use borrow.Author.Tests.{lt-leb, le-leb}
-use Rattle.morton.specs.Code.{spreadBits, gatherBits, xOf, yOf}
+use Rattle.morton.specs.Code.{spreadBits, xOf, yOf}
 use Rattle.morton.specs.Between.{Between}
 use Rattle.morton.proofs.Fields.{evens, laid-bits, even-bits}
 

@@ -1,4 +1,4 @@
-ghost use Prim.Native.Nat.{_+_, _*_, _≤_, _<_};
+ghost use Prim.Native.Nat.{_<_};
 ghost use mathlib.Core.Path.{_≡_};
 ghost use Rattle.query.specs.Counting.{CanCount, PixelCounted, SeenAtMost, CountMeets, CountAnswer};
 ghost use Rattle.query.specs.Corners.{windowOf, HasCodes};

@@ -1,6 +1,6 @@
 -- `morton::block_around` meets its contract: two bits for each level go, and nothing is shifted out of the word.
 use borrow.Author.Needs.{needs}
-use mathlib.Core.Path.{_≡_, ap, sym, _∙_}
+use mathlib.Core.Path.{_≡_}
 use Prim.Native.Nat.{ℕ, _+_, _*_, _/_, _%_, _^_, _<_}
 use native.Mathlib.Nat.{div-mul-le-self, mod-eq-of-lt}
 use native.Mathlib.Omega.{arith}

@@ -1,6 +1,5 @@
 -- `morton::x_between` meets its contract: the mask leaves the bits of x, which ascend as x does.
 use borrow.Author.Needs.{needs}
-use Prim.Native.Nat.{ℕ}
 use Rattle.morton.specs.Code.{spreadBits}
 use Rattle.morton.proofs.Codes.{gather-below}
 use Rattle.morton.proofs.Order.{spread-ascends, even-mask, between-ascending}

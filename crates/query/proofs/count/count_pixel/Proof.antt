@@ -1,7 +1,7 @@
 -- `query::count::count_pixel` meets its contract.
 use borrow.Author.Needs.{needs}
 use native.Mathlib.Omega.{arith}
-use mathlib.Core.Path.{_≡_, ap, sym, _∙_}
+use mathlib.Core.Path.{ap, sym, _∙_}
 use lib.ListN.{length}
 use Rattle.query.specs.Corners.{windowBetween}
 use Rattle.query.proofs.SeenParts.{pixel-outside, pixel-inside}

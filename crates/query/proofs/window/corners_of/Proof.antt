@@ -1,6 +1,6 @@
 -- `query::window::corners_of` meets its contract: each coordinate comes back from the code of its corner.
 use borrow.Author.Needs.{needs}
-use Prim.Native.Nat.{ℕ, _<_}
+use Prim.Native.Nat.{ℕ}
 use mathlib.Core.Path.{_≡_}
 use Rattle.morton.specs.Code.{codeOf}
 use Rattle.morton.proofs.Codes.{x-of-code, y-of-code}
