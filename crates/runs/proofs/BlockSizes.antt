@@ -1,8 +1,8 @@
 -- The number of codes of a block, as the code makes it by a shift.
-use Prim.Native.Nat.{ℕ, zero, suc, _+_, _*_, _%_, _^_, _≤_, _<_}
+use Prim.Native.Nat.{ℕ, zero, suc, _*_, _%_, _^_, _≤_}
 use native.Mathlib.Omega.{arith}
 use native.Mathlib.Nat.{pow-suc, pow-le-pow-right}
-use mathlib.Core.Path.{_≡_, refl, ap, _∙_}
+use mathlib.Core.Path.{_≡_, refl, ap}
 
 -- two bits for each level
 four-pow : (i : ℕ) → 2 ^ (2 * i) ≡ 4 ^ i
