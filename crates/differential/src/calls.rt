@@ -1,4 +1,6 @@
 // The register's own answers, through its public calls.
+ghost use mathlib.Core.Path.{_≡_};
+ghost use lib.ListN.{length};
 use plain::answer::Answer;
 use plain::answer::answered;
 use plain::answer::done;
@@ -22,15 +24,21 @@ fn outcome(outcome: Outcome) -> Answer {
     }
 }
 
-pub fn make(store: &mut [u32], panel: Panel) -> Answer {
+pub fn make(store: &mut [u32], panel: Panel) -> Answer
+    ensures { λ _. ⌜ length (now (store .exit)) ≡ length (now (store .entry)) ⌝ }
+{
     outcome(register::make(store, panel.order, panel.k, panel.most))
 }
 
-pub fn mark(store: &mut [u32], x: u32, y: u32) -> Answer {
+pub fn mark(store: &mut [u32], x: u32, y: u32) -> Answer
+    ensures { λ _. ⌜ length (now (store .exit)) ≡ length (now (store .entry)) ⌝ }
+{
     outcome(register::mark(store, x, y))
 }
 
-pub fn clear(store: &mut [u32], x: u32, y: u32) -> Answer {
+pub fn clear(store: &mut [u32], x: u32, y: u32) -> Answer
+    ensures { λ _. ⌜ length (now (store .exit)) ≡ length (now (store .entry)) ⌝ }
+{
     outcome(register::clear(store, x, y))
 }
 
@@ -48,7 +56,9 @@ pub fn count(store: &[u32], window: Window) -> Answer {
     }
 }
 
-pub fn list(store: &[u32], window: Window, output: &mut [u32]) -> Answer {
+pub fn list(store: &[u32], window: Window, output: &mut [u32]) -> Answer
+    ensures { λ _. ⌜ length (now (output .exit)) ≡ length (now (output .entry)) ⌝ }
+{
     match register::list(store, window.x0, window.y0, window.x1, window.y1, output) {
         Listing::Found { found, opened } => answered(found, opened),
         Listing::Short(needed) => too_short(needed),
@@ -56,7 +66,9 @@ pub fn list(store: &[u32], window: Window, output: &mut [u32]) -> Answer {
     }
 }
 
-pub fn save(store: &[u32], output: &mut [u8]) -> Answer {
+pub fn save(store: &[u32], output: &mut [u8]) -> Answer
+    ensures { λ _. ⌜ length (now (output .exit)) ≡ length (now (output .entry)) ⌝ }
+{
     match register::save(store, output) {
         Saving::Saved(length) => answered(narrow(length), 0),
         Saving::Short(needed) => too_short(narrow(needed)),
@@ -64,7 +76,9 @@ pub fn save(store: &[u32], output: &mut [u8]) -> Answer {
     }
 }
 
-pub fn load(store: &mut [u32], image: &[u8]) -> Answer {
+pub fn load(store: &mut [u32], image: &[u8]) -> Answer
+    ensures { λ _. ⌜ length (now (store .exit)) ≡ length (now (store .entry)) ⌝ }
+{
     outcome(register::load(store, image))
 }
 

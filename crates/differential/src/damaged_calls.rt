@@ -1,4 +1,6 @@
 // Mark, clear, ask, count, list and save on a damaged store.
+ghost use mathlib.Core.Path.{_≡_};
+ghost use lib.ListN.{length};
 use crate::calls;
 use crate::steps::list_to;
 use crate::steps::save_to;
@@ -112,7 +114,9 @@ fn compare_changed(step: Step, call: u32, got: Answer, store: &[u32], plain: &mu
     }
 }
 
-pub fn change(step: Step, kind: u32, store: &mut [u32], plain: &mut [u32]) {
+pub fn change(step: Step, kind: u32, store: &mut [u32], plain: &mut [u32])
+    ensures { λ _. ⌜ (length (now (store .exit)) ≡ length (now (store .entry))) × (length (now (plain .exit)) ≡ length (now (plain .entry))) ⌝ }
+{
     if kind == 0 {
         mark(step, store, plain);
         return;
@@ -120,7 +124,9 @@ pub fn change(step: Step, kind: u32, store: &mut [u32], plain: &mut [u32]) {
     clear(step, store, plain);
 }
 
-pub fn look(step: Step, kind: u32, store: &[u32], plain: &mut [u32]) {
+pub fn look(step: Step, kind: u32, store: &[u32], plain: &mut [u32])
+    ensures { λ _. ⌜ length (now (plain .exit)) ≡ length (now (plain .entry)) ⌝ }
+{
     look_by_kind(step, kind, store, plain);
     compare_store(step, PAST, store, 0, plain);
 }

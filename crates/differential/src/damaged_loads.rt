@@ -1,4 +1,6 @@
 // Load and check on a damaged store.
+ghost use mathlib.Core.Path.{_≡_};
+ghost use lib.ListN.{length};
 use crate::calls;
 use crate::damaged_calls::end_kept;
 use crate::damaged_calls::fixed;
@@ -27,7 +29,9 @@ use report::compare_store;
 use report::expect;
 
 // Load's answer is fixed; a store that was loaded is sound, whatever it was before.
-pub fn load(step: Step, store: &mut [u32], plain: &mut [u32]) {
+pub fn load(step: Step, store: &mut [u32], plain: &mut [u32])
+    ensures { λ _. ⌜ (length (now (store .exit)) ≡ length (now (store .entry))) × (length (now (plain .exit)) ≡ length (now (plain .entry))) ⌝ }
+{
     let loaded = load_composed(step, store, plain);
     compare_loaded(step, loaded, store, plain);
     if !loaded {
@@ -78,7 +82,9 @@ fn walk_some(panel: Panel, step: Step, store: &mut [u32], plain: &mut [u32]) {
 }
 
 // Where 01 fixes no answer of its own, check may say yes or no. Where it says yes, the store is sound.
-pub fn check(step: Step, store: &mut [u32], plain: &mut [u32]) {
+pub fn check(step: Step, store: &mut [u32], plain: &mut [u32])
+    ensures { λ _. ⌜ (length (now (store .exit)) ≡ length (now (store .entry))) × (length (now (plain .exit)) ≡ length (now (plain .entry))) ⌝ }
+{
     let sound = judge_check(step, store, plain);
     compare_store(step, CHECK, store, 0, plain);
     if !sound {

@@ -1,4 +1,6 @@
 // Load, drawn, on the register and on the plain set.
+ghost use mathlib.Core.Path.{_≡_};
+ghost use lib.ListN.{length};
 use crate::calls;
 use draws::Step;
 use draws::images::compose;
@@ -10,7 +12,9 @@ use plain::words::place;
 use report::LOAD;
 use report::compare;
 
-pub fn run(panel: Panel, step: Step, store: &mut [u32], plain: &mut [u32]) {
+pub fn run(panel: Panel, step: Step, store: &mut [u32], plain: &mut [u32])
+    ensures { λ _. ⌜ (length (now (store .exit)) ≡ length (now (store .entry))) × (length (now (plain .exit)) ≡ length (now (plain .entry))) ⌝ }
+{
     let mut bytes = [0u8; 700];
     let length = compose(panel, step, plain, &mut bytes);
     load_bytes(panel, step, length, &bytes, store, plain);

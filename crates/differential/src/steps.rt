@@ -1,4 +1,6 @@
 // One call of a history, drawn, on the register and on the plain set.
+ghost use mathlib.Core.Path.{_≡_};
+ghost use lib.ListN.{length};
 use crate::calls;
 use crate::loads;
 use draws::Step;
@@ -37,7 +39,9 @@ use report::compare_words;
 use report::count_reached;
 use report::stopped;
 
-pub fn run(panel: Panel, step: Step, store: &mut [u32], plain: &mut [u32]) {
+pub fn run(panel: Panel, step: Step, store: &mut [u32], plain: &mut [u32])
+    ensures { λ _. ⌜ (length (now (store .exit)) ≡ length (now (store .entry))) × (length (now (plain .exit)) ≡ length (now (plain .entry))) ⌝ }
+{
     if stopped(plain) {
         return;
     }
@@ -188,7 +192,9 @@ pub fn save_to(store: &[u32], length: u32, output: &mut [u8]) -> Answer {
     calls::save(store, &mut output[..end])
 }
 
-pub fn make(panel: Panel, step: Step, store: &mut [u32], plain: &mut [u32]) {
+pub fn make(panel: Panel, step: Step, store: &mut [u32], plain: &mut [u32])
+    ensures { λ _. ⌜ (length (now (store .exit)) ≡ length (now (store .entry))) × (length (now (plain .exit)) ≡ length (now (plain .entry))) ⌝ }
+{
     let length = store.len();
     let got = calls::make(store, panel);
     let want = plain::calls::make(panel, length, plain);
@@ -196,13 +202,17 @@ pub fn make(panel: Panel, step: Step, store: &mut [u32], plain: &mut [u32]) {
 }
 
 // The store of a history is sound all the time.
-pub fn check(step: Step, store: &[u32], plain: &mut [u32]) {
+pub fn check(step: Step, store: &[u32], plain: &mut [u32])
+    ensures { λ _. ⌜ length (now (plain .exit)) ≡ length (now (plain .entry)) ⌝ }
+{
     compare(step, CHECK, calls::check(store), answered(1, 0), plain);
     add_one(plain, CHECKS);
 }
 
 // The whole image.
-pub fn compare_image(panel: Panel, step: Step, store: &[u32], plain: &mut [u32]) {
+pub fn compare_image(panel: Panel, step: Step, store: &[u32], plain: &mut [u32])
+    ensures { λ _. ⌜ length (now (plain .exit)) ≡ length (now (plain .entry)) ⌝ }
+{
     if stopped(plain) {
         return;
     }
@@ -216,7 +226,9 @@ pub fn compare_image(panel: Panel, step: Step, store: &[u32], plain: &mut [u32])
 }
 
 // The calls from `low` to `high`.
-pub fn walk(panel: Panel, seed: u32, low: u32, high: u32, store: &mut [u32], plain: &mut [u32]) {
+pub fn walk(panel: Panel, seed: u32, low: u32, high: u32, store: &mut [u32], plain: &mut [u32])
+    ensures { λ _. ⌜ (length (now (store .exit)) ≡ length (now (store .entry))) × (length (now (plain .exit)) ≡ length (now (plain .entry))) ⌝ }
+{
     for number in low..high {
         let step = Step { seed, number };
         run(panel, step, store, plain);

@@ -1,5 +1,7 @@
 // Images for load: of the present set, of one saved before, of a set drawn; left alone or damaged.
 ghost use Prim.Native.Nat.{_≤_};
+ghost use mathlib.Core.Path.{_≡_};
+ghost use lib.ListN.{length};
 use crate::Step;
 use crate::draw;
 use crate::pixels::code_inside;
@@ -42,7 +44,9 @@ fn compose_whole(panel: Panel, step: Step, plain: &[u32], bytes: &mut [u8]) -> u
     }
 }
 
-pub fn keep_image(bytes: &[u8], plain: &mut [u32]) {
+pub fn keep_image(bytes: &[u8], plain: &mut [u32])
+    ensures { λ _. ⌜ length (now (plain .exit)) ≡ length (now (plain .entry)) ⌝ }
+{
     for i in 0..700 {
         put(plain, product_and(i, 1, IMAGE_KEPT), byte(bytes, i));
     }
@@ -63,7 +67,9 @@ fn compose_drawn(panel: Panel, step: Step, bytes: &mut [u8]) -> u32 {
     image_length(&plain)
 }
 
-pub fn draw_set(panel: Panel, step: Step, number: u32, set: &mut [u32]) {
+pub fn draw_set(panel: Panel, step: Step, number: u32, set: &mut [u32])
+    ensures { λ _. ⌜ length (now (set .exit)) ≡ length (now (set .entry)) ⌝ }
+{
     for i in 0..number {
         add(set, code_inside(panel, step, product_and(i, 8, 200)));
     }
