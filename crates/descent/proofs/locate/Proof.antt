@@ -1,7 +1,7 @@
 -- `descent::locate` meets its contract. The loop's invariant is Descended: each turn steps down to a block that holds the code, or ends. The measure is the level.
 use Prim.Native.Nat.{ℕ}
 use native.Mathlib.Omega.{arith}
-use mathlib.Core.Path.{_≡_, refl, subst₂}
+use mathlib.Core.Path.{_≡_, subst₂}
 use mathlib.Core.Bool.{Bool}
 use mathlib.Core.List.{List}
 use borrow.Author.Needs.{needs}
