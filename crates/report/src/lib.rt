@@ -1,4 +1,4 @@
-// The plain, and what is printed on a difference.
+// What a trial counts, and what is printed on a difference.
 ghost use mathlib.Core.Path.{_≡_};
 ghost use lib.ListN.{length};
 use draws::Step;
