@@ -19,8 +19,3 @@ ltb-decides a b P below above = go (ltb a b) refl
     go : (t : Bool) → ltb a b ≡ t → Decides t P
     go true e = below (ltb-true a b e)
     go false e = above (ltb-false a b e)
-
--- what holds exactly with it is decided too
-pub decides-same : (t : Bool) {P Q : Type 0} → (P → Q) → (Q → P) → Decides t P → Decides t Q
-decides-same true there back p = there p
-decides-same false there back not = λ q. not (back q)

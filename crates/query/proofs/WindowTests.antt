@@ -1,12 +1,12 @@
 -- The tests that the code makes of a window, against what they decide.
-use Prim.Native.Nat.{ℕ, _+_, _*_, _/_, _%_, _^_, _≤_, _<_}
+use Prim.Native.Nat.{ℕ, _+_, _*_, _/_, _^_, _≤_, _<_}
 use native.Mathlib.Decide.{decLt}
 use native.Mathlib.Omega.{arith}
 use mathlib.Core.Path.{_≡_, refl, ap, sym, _∙_}
 use mathlib.Core.Logic.{_↔_}
 use mathlib.Core.Bool.{Bool, true, false, _&&_, and-eq-true-iff}
 use lib.Dec.{ltb, leb}
-use lib.Pow.{pow-mono, pow-pos as side-pos}
+use lib.Pow.{pow-pos as side-pos}
 use borrow.Author.Tests.{lt-ltb, le-ltb, lt-leb, le-leb, ltb-true, leb-true}
 use Rattle.morton.specs.Code.{xOf, yOf}
 use Rattle.pktree.specs.Panel.{Panel, Valid, Aligned, Block}
@@ -17,10 +17,6 @@ use Rattle.pktree.proofs.Alignment.{pow-pos, blockCode-aligned, blockCode-le, b
 use Rattle.pktree.proofs.Windows.{within-multiple, corner-of-aligned, block-is-square, corners-meet-exactly}
 use Rattle.query.specs.declared.window.Corners.{Corners}
 use Rattle.query.specs.Corners.{Ordered, cornersMeet, PixelTested, BlockTested}
-
--- the side of a block of the panel, as the code makes it by a shift
-pub side-of-level : (level : ℕ) → level ≤ 16 → (1 * 2 ^ level % 4294967296 ≡ 2 ^ level) × (2 ^ level ≤ 65536)
-side-of-level level h = let p : 2 ^ level ≤ 2 ^ 16 = pow-mono h in omega arith
 
 -- two tests of one statement are the same test
 same-test : {P : Type 0} (a b : Bool) → (a ≡ true) ↔ P → (b ≡ true) ↔ P → a ≡ b

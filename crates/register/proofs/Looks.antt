@@ -105,16 +105,11 @@ module _ (words : List ℕ) (x0 y0 x1 y1 : ℕ) where
         spoiled = λ v w o s. absurd (fails o);
       }
 
-  -- such a refusal is neither an answer nor 9 nor 13, and its condition fails where an answer is due
+  -- the condition of such a refusal fails where an answer is due
   pub never-refused : (n : ℕ) → WindowRefused words x0 y0 x1 y1 n → UsableStore words → CornersOn words x0 y0 x1 y1 → InOrder x0 y0 x1 y1 → ⊥
   never-refused n (inl (e, fails)) u on o = fails u
   never-refused n (inr (inl (e, v, off))) u on o = off on
   never-refused n (inr (inr (e, v, w, fails))) u on o = fails o
-
-  refusal-number : (n : ℕ) → WindowRefused words x0 y0 x1 y1 n → (n ≡ 0 → ⊥) × (n ≡ 9 → ⊥) × (n ≡ 13 → ⊥)
-  refusal-number n (inl (e, fails)) = (omega arith, omega arith, omega arith)
-  refusal-number n (inr (inl (e, v, off))) = (omega arith, omega arith, omega arith)
-  refusal-number n (inr (inr (e, v, w, fails))) = (omega arith, omega arith, omega arith)
 
   pub count-refused : (n : ℕ) → WindowRefused words x0 y0 x1 y1 n → CountMeets words x0 y0 x1 y1 (counting.Refused n)
   count-refused n h =
