@@ -10,8 +10,8 @@ use Rattle.pktree.specs.Elements.{block, size}
 use Rattle.pktree.specs.Tree.{pixels}
 use Rattle.pktree.proofs.Forests.{blockCount, blockCount-join}
 use Rattle.pktree.proofs.Arranged.{LocallyRight}
-use Rattle.store.specs.Sizes.{slotCount}
-use Rattle.store.specs.Slot.{slotPart}
+use Rattle.measures.specs.Sizes.{slotCount}
+use Rattle.measures.specs.Slot.{slotPart}
 use Rattle.store.specs.Placed.{Placed, nothing, pixelThen, blockThen, _⧻_, forestOf, slotsOf}
 use Rattle.store.specs.FreeSlots.{FreeSlots, occurrences}
 use Rattle.store.specs.Sound.{SlotsShared}

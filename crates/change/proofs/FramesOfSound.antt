@@ -6,7 +6,7 @@ use mathlib.Core.List.{List, [], _∷_}
 use lib.ListN.{getD}
 use Rattle.pktree.specs.Elements.{Forest, empty, pixel, block, _⧺_, size}
 use Rattle.pktree.proofs.Arranged.{Arranged, LocallyRight}
-use Rattle.store.specs.Sizes.{slotWidth, slotCount}
+use Rattle.measures.specs.Sizes.{slotWidth, slotCount}
 use Rattle.store.specs.Placed.{Placed, nothing, blockThen, _⧻_, forestOf}
 use Rattle.store.specs.Sound.{Sound}
 use Rattle.store.proofs.PlacedJoin.{forest-join, stands-parts}

@@ -5,7 +5,7 @@ use mathlib.Core.List.{List, [], _∷_, _++_}
 use lib.ListN.{take}
 use Rattle.pktree.specs.Lists.{Every}
 use Rattle.pktree.specs.Elements.{size}
-use Rattle.store.specs.Slot.{slotPart, elementPart}
+use Rattle.measures.specs.Slot.{slotPart, elementPart}
 use Rattle.store.specs.Placed.{Placed, nothing, blockThen, _⧻_, forestOf, slotsOf}
 use Rattle.store.proofs.Standing.{elementWords, SlotSays, Stands, frame, every-left, every-right}
 use Rattle.store.proofs.PlacedJoin.{words-join, size-placed-join, stands-join}

@@ -10,14 +10,14 @@ use Rattle.pktree.specs.Elements.{size}
 use Rattle.pktree.specs.Tree.{pixels}
 use Rattle.pktree.proofs.Arranged.{quarterLevel, LocallyRight}
 use Rattle.pktree.proofs.Regroup.{Disturbed}
-use Rattle.store.specs.declared.sizes.Layout.{Layout}
-use Rattle.store.specs.Sizes.{slotWidth, slotCount}
-use Rattle.store.specs.Slot.{slotPart, OnlySlot}
+use Rattle.measures.specs.declared.sizes.Layout.{Layout}
+use Rattle.measures.specs.Sizes.{slotWidth, slotCount}
+use Rattle.measures.specs.Slot.{slotPart, OnlySlot}
 use Rattle.store.specs.Placed.{Placed, _⧻_, forestOf, slotsOf}
 use Rattle.store.specs.FreeSlots.{FreeSlots, occurrences}
 use Rattle.store.specs.Sound.{SlotsShared}
 use Rattle.store.proofs.Standing.{SlotSays, Stands, frame, every-right}
-use Rattle.store.proofs.SlotWrites.{word-in-front}
+use Rattle.measures.proofs.SlotWrites.{word-in-front}
 use Rattle.store.proofs.FreeChains.{absent, every-map, free-kept, occurrences-same, occurrences-join}
 use Rattle.descent.specs.Way.{Frame, plug}
 use Rattle.change.proofs.Frames.{FramesRight}

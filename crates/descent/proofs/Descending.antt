@@ -11,11 +11,11 @@ use lib.ListN.{length, getD, set, length-set}
 use lib.Seq.{getD-set-same, getD-set-other}
 use Rattle.pktree.specs.Elements.{size}
 use Rattle.pktree.proofs.Absurd.{zero-is-not-one}
-use Rattle.store.specs.Sizes.{sizesOf, slotCount, slotWidth}
-use Rattle.store.specs.Layout.{layoutOf, LayoutFits}
-use Rattle.store.specs.Slot.{slotPart, countWord}
+use Rattle.measures.specs.Sizes.{sizesOf, slotCount, slotWidth}
+use Rattle.measures.specs.Layout.{layoutOf, LayoutFits}
+use Rattle.measures.specs.Slot.{slotPart, countWord}
 use Rattle.store.specs.Opening.{HeaderSays, CannotOpen}
-use Rattle.store.specs.declared.sizes.Layout.{Layout}
+use Rattle.measures.specs.declared.sizes.Layout.{Layout}
 use Rattle.store.specs.Placed.{Placed, forestOf}
 use Rattle.store.specs.Sound.{Sound}
 use Rattle.store.proofs.SoundView.{sound-view}
@@ -24,7 +24,7 @@ use Rattle.descent.specs.Way.{Frame, plug}
 use Rattle.descent.specs.Looked.{LookedHere, InnerBlock}
 use Rattle.descent.specs.declared.Located.{Located}
 use Rattle.descent.specs.Located.{CanEnter, PathNames, LocateMeets}
-use Rattle.store.proofs.Usable.{slot-long}
+use Rattle.measures.proofs.Usable.{slot-long}
 use Rattle.descent.proofs.Looking.{EntersBlock, looked-here, looked-inner}
 use Rattle.descent.proofs.Ways.{seen-on-way, names-more}
 

@@ -11,7 +11,7 @@ use Rattle.pktree.proofs.Alignment.{pow-pos}
 use Rattle.pktree.proofs.Windows.{within-multiple}
 use Rattle.pktree.proofs.Arranged.{Arranged, arranged-upper, arranged-join}
 use Rattle.pktree.proofs.Absurd.{zero-is-not-one}
-use Rattle.store.specs.Slot.{slotPart}
+use Rattle.measures.specs.Slot.{slotPart}
 use Rattle.store.specs.Element.{elementOf, elementAt}
 use Rattle.store.specs.Splice.{codeAt, PlaceOf}
 use Rattle.store.specs.declared.elements.Element.{Element}

@@ -6,7 +6,7 @@ use mathlib.Core.List.{List, [], _∷_}
 use lib.ListN.{length, getD, set}
 use lib.Seq.{getD-set-same, getD-set-other}
 use Rattle.pktree.specs.Elements.{size}
-use Rattle.store.specs.Sizes.{slotCount, slotWidth}
+use Rattle.measures.specs.Sizes.{slotCount, slotWidth}
 use Rattle.store.specs.Placed.{Placed, blockThen, _⧻_, forestOf}
 use Rattle.store.specs.Sound.{Sound}
 use Rattle.store.proofs.SoundView.{sound-view}

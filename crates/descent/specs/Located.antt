@@ -7,10 +7,10 @@ use mathlib.Core.List.{List, [], _∷_}
 use lib.ListN.{length, getD}
 use Rattle.pktree.specs.Elements.{size}
 use Rattle.pktree.proofs.Arranged.{Arranged}
-use Rattle.store.specs.Sizes.{sizesOf}
-use Rattle.store.specs.Layout.{layoutOf}
+use Rattle.measures.specs.Sizes.{sizesOf}
+use Rattle.measures.specs.Layout.{layoutOf}
 use Rattle.store.specs.Opening.{CannotOpen}
-use Rattle.store.specs.declared.sizes.Layout.{Layout}
+use Rattle.measures.specs.declared.sizes.Layout.{Layout}
 use Rattle.store.specs.Placed.{Placed, pixelThen, forestOf, _⧻_}
 use Rattle.store.specs.Sound.{Sound}
 use Rattle.descent.specs.declared.Located.{Located}

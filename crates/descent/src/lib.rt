@@ -2,17 +2,17 @@ ghost use Prim.Native.Nat.{_+_, _*_, _≤_, _<_};
 ghost use mathlib.Core.Path.{_≡_};
 ghost use mathlib.Core.Bool.{true};
 ghost use lib.ListN.{length};
-ghost use Rattle.store.specs.Layout.{LayoutFits};
+ghost use Rattle.measures.specs.Layout.{LayoutFits};
 ghost use Rattle.descent.specs.Looked.{Looked};
 ghost use Rattle.descent.specs.Located.{CanEnter, FoundAt, LocateMeets};
+use measures::sizes::Layout;
+use measures::slots::slot_part;
+use measures::slots::wide;
 use store::elements::Element;
 use store::elements::element_at;
 use store::elements::find_place;
 use store::opening::Opening;
 use store::opening::open_part;
-use store::sizes::Layout;
-use store::slots::slot_part;
-use store::slots::wide;
 
 // What the elements of one block show of a code: it ends here, at a pixel of its own or between two elements, or in an inner block.
 pub enum Ahead {

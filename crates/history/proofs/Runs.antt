@@ -1,7 +1,7 @@
 -- A register after its list of calls holds exactly the survivors.
 use Prim.Native.Nat.{ℕ}
 use mathlib.Core.List.{List, []}
-use Rattle.store.specs.declared.sizes.Sizes.{Sizes}
+use Rattle.measures.specs.declared.sizes.Sizes.{Sizes}
 use Rattle.history.specs.Survivors.{Call, next, surviving, survivors}
 use Rattle.history.specs.Run.{Fresh, by-make, Run, done, then, History}
 use Rattle.history.proofs.Steps.{InStep, step-keeps}

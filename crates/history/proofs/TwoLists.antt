@@ -16,8 +16,8 @@ use Rattle.pktree.proofs.InTree.{in-tree-exactly-instantiated}
 use Rattle.pktree.proofs.Sizes as sizes-of-blocks
 use Rattle.pktree.proofs.BlockNumber as number
 use Rattle.pktree.proofs.Images.{image-determines-set}
-use Rattle.store.specs.declared.sizes.Sizes.{Sizes}
-use Rattle.store.specs.Sizes.{panelOf, sizesOf, ValidSizes}
+use Rattle.measures.specs.declared.sizes.Sizes.{Sizes}
+use Rattle.measures.specs.Sizes.{panelOf, sizesOf, ValidSizes}
 use Rattle.store.specs.Placed.{forestOf}
 use Rattle.register.specs.declared.Saving.{Saving}
 use Rattle.register.specs.Answer.{Answer, saveAnswer}

@@ -5,7 +5,7 @@ use mathlib.Core.Path.{_≡_, refl, subst, sym, _∙_}
 use mathlib.Core.List.{List, [], _∷_}
 use lib.ListN.{length}
 use Rattle.morton.specs.Code.{interleave}
-use Rattle.store.specs.Sizes.{ValidSizes}
+use Rattle.measures.specs.Sizes.{ValidSizes}
 use Rattle.register.specs.declared.Outcome.{Outcome}
 use Rattle.register.specs.Answer.{answer}
 use Rattle.register.specs.Make.{asked, MakeMeets}

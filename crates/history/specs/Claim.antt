@@ -9,8 +9,8 @@ use Rattle.pktree.specs.PixelSet.{member}
 use Rattle.pktree.specs.Elements.{Forest, size, gather}
 use Rattle.pktree.specs.Tree.{Instantiated, tree, blockOf, blocks}
 use Rattle.pktree.specs.Image.{image}
-use Rattle.store.specs.declared.sizes.Sizes.{Sizes}
-use Rattle.store.specs.Sizes.{panelOf}
+use Rattle.measures.specs.declared.sizes.Sizes.{Sizes}
+use Rattle.measures.specs.Sizes.{panelOf}
 use Rattle.store.specs.Placed.{Placed, forestOf}
 use Rattle.store.specs.Reading.{treeOf}
 use Rattle.register.specs.declared.Saving.{Saving}

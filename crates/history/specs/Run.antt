@@ -5,7 +5,7 @@ use mathlib.Core.Path.{_≡_}
 use mathlib.Core.List.{List, [], _∷_}
 use contract.Lifetimes.{Lfts}
 use denote.Ref.{RefT, now, at-last}
-use Rattle.store.specs.declared.sizes.Sizes.{Sizes}
+use Rattle.measures.specs.declared.sizes.Sizes.{Sizes}
 use Rattle.register.specs.declared.Outcome.{Outcome}
 use Rattle.register.specs.declared.Asking.{Asking}
 use Rattle.register.specs.declared.Counting.{Counting}

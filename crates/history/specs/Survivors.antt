@@ -8,8 +8,8 @@ use lib.ListN.{length}
 use Rattle.morton.specs.Code.{codeOf}
 use Rattle.pktree.specs.Panel.{isPixel}
 use Rattle.pktree.specs.PixelSet.{member, added, removed}
-use Rattle.store.specs.declared.sizes.Sizes.{Sizes}
-use Rattle.store.specs.Sizes.{panelOf}
+use Rattle.measures.specs.declared.sizes.Sizes.{Sizes}
+use Rattle.measures.specs.Sizes.{panelOf}
 use Rattle.image.specs.Parts.{pixelsOf}
 use Rattle.history.specs.ImageTest.{isImageOf}
 

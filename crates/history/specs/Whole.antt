@@ -4,7 +4,7 @@ use mathlib.Core.Path.{_≡_}
 use mathlib.Core.Logic.{_↔_}
 use mathlib.Core.List.{List, [], _∷_}
 use lib.ListN.{length}
-use Rattle.store.specs.Sizes.{ValidSizes, storeWords}
+use Rattle.measures.specs.Sizes.{ValidSizes, storeWords}
 use Rattle.register.specs.Make.{asked}
 use Rattle.history.specs.Survivors.{Call, mark, survivors}
 use Rattle.history.specs.Run.{History}

@@ -7,7 +7,7 @@ ghost use Rattle.history.specs.Run.{Step, Run};
 ghost use Rattle.history.specs.Script.{zeros, callOf, encodedAt, callsOf};
 ghost use Rattle.history.specs.Whole.{RunMeets, SampleRan};
 use image::parts::part_of;
-use store::slots::wide;
+use measures::slots::wide;
 
 // A call as words: its number and its arguments.
 pub struct Encoded {

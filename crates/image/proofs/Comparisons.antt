@@ -4,7 +4,7 @@ use mathlib.Core.Path.{_≡_, refl}
 use mathlib.Core.Bool.{Bool, true, false}
 use lib.Dec.{eqb, ltb}
 use borrow.Author.Tests.{eqb-true, eqb-false, ltb-true, ltb-false}
-use Rattle.store.specs.Decides.{Decides}
+use Rattle.measures.specs.Decides.{Decides}
 
 pub eqb-decides : (a b : ℕ) (P : Type 0) → (a ≡ b → P) → ((a ≡ b → ⊥) → P → ⊥) → Decides (eqb a b) P
 eqb-decides a b P same other = go (eqb a b) refl

@@ -1,9 +1,9 @@
-ghost use Rattle.store.specs.Decides.{Decides};
-ghost use Rattle.store.specs.Sizes.{panelOf};
+ghost use Rattle.measures.specs.Decides.{Decides};
+ghost use Rattle.measures.specs.Sizes.{panelOf};
 ghost use Rattle.image.specs.Judged.{WellFormed, FitsRegister};
 use crate::parts::byte_at;
 use crate::parts::pixel_number;
-use store::sizes::Sizes;
+use measures::sizes::Sizes;
 
 // Refusal 11's condition.
 pub fn fits_register(image: &[u8], sizes: Sizes) -> bool

@@ -1,7 +1,7 @@
 ghost use Prim.Native.Nat.{_+_, _*_, _≤_, _<_};
 ghost use mathlib.Core.Path.{_≡_};
 ghost use lib.ListN.{length, getD, take, drop};
-ghost use Rattle.store.specs.Decides.{Decides};
+ghost use Rattle.measures.specs.Decides.{Decides};
 ghost use Rattle.image.specs.Parts.{fourAt, entryNumber, pixelNumber, codesPart, levelsPart};
 ghost use Rattle.image.specs.Judged.{WellFormed};
 

@@ -1,7 +1,7 @@
 ghost use Prim.Native.Nat.{_*_, _^_, _≤_, _<_};
 ghost use mathlib.Core.Path.{_≡_};
 ghost use lib.ListN.{length};
-ghost use Rattle.store.specs.Decides.{Decides};
+ghost use Rattle.measures.specs.Decides.{Decides};
 ghost use Rattle.image.specs.Judged.{ImageOfSome};
 ghost use Rattle.image.specs.PixelCount.{pixelLevels};
 ghost use Rattle.image.specs.Reading.{EntryIs, EntryInside, FitsQuarter, CanReadBlock, ElementsMeet, QuarterMeets, CanRead};
@@ -10,7 +10,7 @@ use crate::parts::code_at;
 use crate::parts::codes_part;
 use crate::parts::levels_part;
 use crate::parts::pixel_number;
-use store::slots::wide;
+use measures::slots::wide;
 
 // How many elements stand at an index, and the index after their entries; or no set has these entries.
 pub enum ElementsRead {

@@ -8,7 +8,7 @@ use Rattle.pktree.specs.PixelSet.{member}
 use Rattle.pktree.specs.Tree.{pixels, tree as setTree}
 use Rattle.pktree.specs.Window as tree
 use Rattle.pktree.specs.Window.{found, openedByWindow}
-use Rattle.store.specs.Sizes.{panelOf, slotWidth, sizesOf}
+use Rattle.measures.specs.Sizes.{panelOf, slotWidth, sizesOf}
 use Rattle.store.specs.Sound.{Holds}
 use Rattle.store.specs.Opening.{CannotOpen}
 use Rattle.store.specs.Placed.{Placed, forestOf}

@@ -4,7 +4,11 @@ ghost use mathlib.Core.Path.{_≡_};
 ghost use Rattle.query.specs.Counting.{CanCount};
 ghost use Rattle.listing.specs.Listing.{PixelListed, ListMeets, ListAnswer};
 ghost use Rattle.query.specs.Corners.{windowOf, HasCodes};
-ghost use Rattle.store.specs.Sizes.{UsableStore, sizesOf};
+ghost use Rattle.measures.specs.Sizes.{UsableStore, sizesOf};
+use measures::sizes::Sizes;
+use measures::sizes::layout_of;
+use measures::slots::slot_part;
+use measures::slots::wide;
 use query::count::Counted;
 use query::count::Look;
 use query::count::at_most;
@@ -18,10 +22,6 @@ use query::window::meets;
 use store::elements::Element;
 use store::elements::element_at;
 use store::opening::Opening;
-use store::sizes::Sizes;
-use store::sizes::layout_of;
-use store::slots::slot_part;
-use store::slots::wide;
 
 // A pixel that the window has is written at the index of its turn; the output has room for it unless words are damaged.
 pub fn list_pixel(corners: Corners, code: u32, output: &mut [u32], found: u32) -> u32

@@ -4,7 +4,7 @@ use native.Mathlib.Omega.{arith}
 use mathlib.Core.Path.{_≡_, refl, sym, _∙_, subst}
 use mathlib.Core.Logic.{_↔_}
 use mathlib.Core.List.{List}
-use Rattle.store.specs.Sizes.{UsableStore}
+use Rattle.measures.specs.Sizes.{UsableStore}
 use Rattle.store.specs.Sound.{Holds}
 use Rattle.image.specs.Judged.{FitsRegister, ImageOfSome}
 use Rattle.image.proofs.ImageOfSet.{SaysItself, image-is-well-formed, image-tells-pixels}

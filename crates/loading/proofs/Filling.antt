@@ -4,12 +4,12 @@ use native.Mathlib.Omega.{arith}
 use mathlib.Core.Path.{_≡_, refl, ap, sym, _∙_, subst}
 use mathlib.Core.List.{List, [], _∷_}
 use lib.ListN.{length, getD, take, drop}
-use Rattle.store.specs.declared.sizes.Sizes.{Sizes}
-use Rattle.store.specs.Sizes.{sizesOf, storeWords, UsableStore}
+use Rattle.measures.specs.declared.sizes.Sizes.{Sizes}
+use Rattle.measures.specs.Sizes.{sizesOf, storeWords, UsableStore}
 use Rattle.store.specs.Sound.{Holds}
 use Rattle.store.specs.Emptied.{Emptied}
-use Rattle.store.proofs.SlotWrites.{take-less}
-use Rattle.store.proofs.Usable.{sizes-kept}
+use Rattle.measures.proofs.SlotWrites.{take-less}
+use Rattle.measures.proofs.Usable.{sizes-kept}
 use Rattle.image.specs.Parts.{fourAt, entriesAt}
 use Rattle.update.specs.declared.marks.Marking.{Marking}
 use Rattle.update.specs.declared.marks.Marking.the-variants as marking

@@ -6,8 +6,8 @@ use mathlib.Core.List.{List}
 use lib.ListN.{length}
 use Rattle.pktree.specs.Panel.{Panel, Valid}
 use Rattle.pktree.specs.PixelSet.{PixelSet}
-use Rattle.store.specs.declared.sizes.Sizes.{Sizes}
-use Rattle.store.specs.Sizes.{panelOf}
+use Rattle.measures.specs.declared.sizes.Sizes.{Sizes}
+use Rattle.measures.specs.Sizes.{panelOf}
 use Rattle.image.specs.Parts.{codesPart, levelsPart}
 use Rattle.image.specs.Judged.{WellFormed, FitsRegister, ImageOfSome}
 use Rattle.image.proofs.ImageBytes.{length-codes, length-levels}

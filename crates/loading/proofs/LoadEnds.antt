@@ -5,11 +5,11 @@ use mathlib.Core.Path.{_≡_, refl, subst}
 use mathlib.Core.Bool.{Bool, true, false, not}
 use mathlib.Core.List.{List}
 use borrow.Author.Tests.{not-true, not-false}
-use Rattle.store.specs.declared.sizes.Sizes.{Sizes}
-use Rattle.store.specs.Decides.{Decides}
-use Rattle.store.specs.Sizes.{panelOf, sizesOf, UsableStore}
+use Rattle.measures.specs.declared.sizes.Sizes.{Sizes}
+use Rattle.measures.specs.Decides.{Decides}
+use Rattle.measures.specs.Sizes.{panelOf, sizesOf, UsableStore}
 use Rattle.store.specs.Sound.{Holds}
-use Rattle.store.proofs.Decides.{decided-true, decided-false}
+use Rattle.measures.proofs.Decides.{decided-true, decided-false}
 use Rattle.image.specs.Parts.{codesPart, levelsPart}
 use Rattle.image.specs.Judged.{WellFormed, FitsRegister, ImageOfSome}
 use Rattle.image.specs.Reading.{CanRead}

@@ -12,8 +12,8 @@ use Rattle.pktree.specs.Entries.{Entry, pixelEntries}
 use Rattle.pktree.specs.PixelSet.{member, Ascending, added, removed}
 use Rattle.pktree.proofs.EntryOrder.{pixel-entries-join}
 use Rattle.pktree.proofs.SetChanges.{member-removed, added-at-place, removed-at-place}
-use Rattle.store.specs.declared.sizes.Sizes.{Sizes}
-use Rattle.store.specs.Sizes.{panelOf}
+use Rattle.measures.specs.declared.sizes.Sizes.{Sizes}
+use Rattle.measures.specs.Sizes.{panelOf}
 use Rattle.store.proofs.Standing.{every-right}
 use Rattle.image.specs.Parts.{fourAt, entryAt, entriesAt}
 use Rattle.loading.specs.Filled.{pixelsTo, pixelsGiven, EntriesFit}

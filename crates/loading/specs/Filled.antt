@@ -5,8 +5,8 @@ use mathlib.Core.List.{List, []}
 use lib.ListN.{length, take, drop}
 use Rattle.pktree.specs.PixelSet.{PixelSet}
 use Rattle.pktree.specs.Entries.{pixelEntries}
-use Rattle.store.specs.declared.sizes.Sizes.{Sizes}
-use Rattle.store.specs.Sizes.{panelOf, sizesOf, storeWords, UsableStore}
+use Rattle.measures.specs.declared.sizes.Sizes.{Sizes}
+use Rattle.measures.specs.Sizes.{panelOf, sizesOf, storeWords, UsableStore}
 use Rattle.store.specs.Sound.{Holds}
 use Rattle.image.specs.Parts.{entriesAt}
 

@@ -6,7 +6,7 @@ use lib.ListN.{length, getD, take, drop}
 use Rattle.pktree.specs.Panel.{Panel}
 use Rattle.pktree.specs.PixelSet.{PixelSet}
 use Rattle.pktree.specs.Image.{image}
-use Rattle.store.specs.Sizes.{panelOf, sizesOf, storeWords}
+use Rattle.measures.specs.Sizes.{panelOf, sizesOf, storeWords}
 use Rattle.store.specs.Sound.{Holds}
 use Rattle.image.specs.Judged.{WellFormed, FitsRegister, ImageOfSome}
 use Rattle.loading.specs.declared.load.Loaded.{Loaded}

@@ -2,8 +2,8 @@ ghost use Prim.Native.Nat.{_+_};
 ghost use Rattle.loading.specs.Filled.{pixelsTo, pixelsGiven, EntryDue, FillDue, ReplaceDue, Replaced};
 use image::parts::byte_at;
 use image::parts::code_at;
+use measures::sizes::Sizes;
 use store::reset::reset;
-use store::sizes::Sizes;
 use update::marks::mark;
 
 // One entry of the image: a pixel is marked, a block is passed over, since marking makes the blocks.

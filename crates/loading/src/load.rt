@@ -1,5 +1,5 @@
 ghost use mathlib.Core.Path.{_≡_};
-ghost use Rattle.store.specs.Sizes.{UsableStore, sizesOf};
+ghost use Rattle.measures.specs.Sizes.{UsableStore, sizesOf};
 ghost use Rattle.loading.specs.Loaded.{LoadAnswer};
 use crate::fill::replace;
 use image::fit::fits_register;
@@ -7,7 +7,7 @@ use image::parts::codes_part;
 use image::parts::is_well_formed;
 use image::parts::levels_part;
 use image::reader::is_image_of_some;
-use store::sizes::Sizes;
+use measures::sizes::Sizes;
 
 // Malformed, Unfit and NoImage are 01's refusals 10, 11 and 12.
 pub enum Loaded {

@@ -6,8 +6,8 @@ use crate::answers::count;
 use crate::answers::mark;
 use crate::answers::print_number;
 use crate::entries::print;
+use measures::slots::wide;
 use register::Listing;
-use store::slots::wide;
 
 // Enough words for every panel here; a function gives them, so that no proof spells them out.
 fn words_148() -> [u32; 148]

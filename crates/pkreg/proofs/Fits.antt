@@ -6,7 +6,7 @@ use native.Mathlib.Decide.{decLt}
 use mathlib.Core.Path.{_≡_}
 use mathlib.Core.List.{List}
 use lib.ListN.{getD}
-use Rattle.store.specs.Sizes.{UsableStore}
+use Rattle.measures.specs.Sizes.{UsableStore}
 use Rattle.register.specs.declared.Asking.{Asking}
 use Rattle.register.specs.declared.Saving.{Saving}
 use Rattle.register.specs.Answer.{askAnswer, saveAnswer}

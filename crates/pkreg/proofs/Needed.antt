@@ -2,7 +2,7 @@
 use Prim.Native.Nat.{ℕ}
 use native.Mathlib.Omega.{arith}
 use mathlib.Core.Path.{_≡_, refl}
-use Rattle.store.specs.Sizes.{ValidSizes, storeWords}
+use Rattle.measures.specs.Sizes.{ValidSizes, storeWords}
 use Rattle.register.specs.Make.{asked}
 use Rattle.pkreg.specs.Words.{WordsNeeded}
 

@@ -1,7 +1,7 @@
 -- 01 "The lent store": the words that a caller must lend, before there is a store.
 use Prim.Native.Nat.{ℕ}
 use mathlib.Core.Path.{_≡_}
-use Rattle.store.specs.Sizes.{ValidSizes, storeWords}
+use Rattle.measures.specs.Sizes.{ValidSizes, storeWords}
 use Rattle.register.specs.Make.{asked}
 
 -- the formula for k and N within their limits, whatever the order m; 0 where make refuses them with every m

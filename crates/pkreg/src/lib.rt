@@ -14,16 +14,16 @@ ghost use Rattle.register.specs.Save.{SaveMeets};
 ghost use Rattle.register.specs.Check.{CheckMeets};
 ghost use Rattle.pkreg.specs.Gives.{Gives, alone, numbers};
 ghost use Rattle.pkreg.specs.Words.{WordsNeeded};
+use measures::sizes::Sizes;
+use measures::sizes::layout_of;
+use measures::sizes::store_end;
+use measures::sizes::within_limits;
 use register::Asking;
 use register::Checking;
 use register::Counting;
 use register::Listing;
 use register::Saving;
 use register::refusal_of;
-use store::sizes::Sizes;
-use store::sizes::layout_of;
-use store::sizes::store_end;
-use store::sizes::within_limits;
 
 // 01's number and values: refusal 0 is an accepted call.
 #[repr(C)]

@@ -10,11 +10,11 @@ use Rattle.pktree.specs.PixelSet.{member}
 use Rattle.pktree.specs.Tree.{tree}
 use Rattle.pktree.specs.Window.{openedByPixel}
 use Rattle.pktree.proofs.Absurd.{zero-is-not-one}
-use Rattle.store.specs.declared.sizes.Sizes.{Sizes}
-use Rattle.store.specs.declared.sizes.Layout.{Layout}
-use Rattle.store.specs.Sizes.{panelOf, slotWidth, sizesOf, UsableStore}
-use Rattle.store.specs.Layout.{layoutOf, LaidOut}
-use Rattle.store.specs.Slot.{slotPart, countWord}
+use Rattle.measures.specs.declared.sizes.Sizes.{Sizes}
+use Rattle.measures.specs.declared.sizes.Layout.{Layout}
+use Rattle.measures.specs.Sizes.{panelOf, slotWidth, sizesOf, UsableStore}
+use Rattle.measures.specs.Layout.{layoutOf, LaidOut}
+use Rattle.measures.specs.Slot.{slotPart, countWord}
 use Rattle.store.specs.Opening.{HeaderSays, CannotOpen}
 use Rattle.store.specs.Placed.{forestOf}
 use Rattle.descent.specs.declared.Located.{Located}

@@ -9,7 +9,7 @@ use Rattle.pktree.specs.Window.{Window}
 use Rattle.pktree.proofs.Absurd.{zero-is-not-one}
 use Rattle.store.specs.Element.{elementAt}
 use Rattle.store.specs.Placed.{Placed, _⧻_, forestOf}
-use Rattle.store.specs.Slot.{slotPart}
+use Rattle.measures.specs.Slot.{slotPart}
 use Rattle.store.proofs.PlacedJoin.{forest-join}
 use Rattle.store.proofs.BlockView.{BlockView}
 use Rattle.store.specs.declared.elements.Element.{Element}

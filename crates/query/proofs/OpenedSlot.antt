@@ -5,14 +5,14 @@ use mathlib.Core.Path.{_≡_, refl, ap, subst₂}
 use mathlib.Core.List.{List}
 use lib.ListN.{length, drop, length-drop}
 use lib.Seq.{length-take-le}
-use Rattle.store.specs.Layout.{LayoutFits}
+use Rattle.measures.specs.Layout.{LayoutFits}
 use Rattle.store.specs.Opening.{HeaderSays, CannotOpen, Opened}
 use Rattle.store.specs.Placed.{Placed}
-use Rattle.store.specs.Slot.{slotPart}
-use Rattle.store.specs.declared.sizes.Layout.{Layout}
+use Rattle.measures.specs.Slot.{slotPart}
+use Rattle.measures.specs.declared.sizes.Layout.{Layout}
 use Rattle.store.specs.declared.opening.Opening.{Opening}
 use Rattle.store.specs.declared.opening.Opening.the-variants.{Elements, Damaged}
-use Rattle.store.proofs.Bounds.{slot-ends}
+use Rattle.measures.proofs.Bounds.{slot-ends}
 use Rattle.store.proofs.BlockView.{BlockView, elements-lie}
 
 -- the part is as long as the layout says, which 01's limits bound

@@ -4,11 +4,11 @@ use native.Mathlib.Omega.{arith}
 use mathlib.Core.Path.{_≡_, ap, subst₂, _∙_}
 use mathlib.Core.List.{List}
 use lib.ListN.{getD}
-use Rattle.store.specs.Sizes.{ValidSizes, UsableStore, sizesOf}
-use Rattle.store.specs.Layout.{LaidOut, layoutOf}
+use Rattle.measures.specs.Sizes.{ValidSizes, UsableStore, sizesOf}
+use Rattle.measures.specs.Layout.{LaidOut, layoutOf}
 use Rattle.store.specs.Placed.{Placed, forestOf}
-use Rattle.store.specs.declared.sizes.Sizes.{Sizes}
-use Rattle.store.specs.declared.sizes.Layout.{Layout}
+use Rattle.measures.specs.declared.sizes.Sizes.{Sizes}
+use Rattle.measures.specs.declared.sizes.Layout.{Layout}
 use Rattle.query.specs.declared.count.Look.{Look}
 use Rattle.query.specs.declared.window.Corners.{Corners}
 use Rattle.query.specs.Corners.{windowBetween}

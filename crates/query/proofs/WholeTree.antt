@@ -11,7 +11,7 @@ use Rattle.pktree.specs.PixelSet.{member}
 use Rattle.pktree.specs.Elements.{empty, block}
 use Rattle.pktree.specs.Tree.{tree, pixels, blockOf}
 use Rattle.pktree.specs.Window.{Window, found, sharesPixel, openedByWindow}
-use Rattle.store.specs.Sizes.{panelOf, slotCount, slotWidth, sizesOf}
+use Rattle.measures.specs.Sizes.{panelOf, slotCount, slotWidth, sizesOf}
 use Rattle.store.specs.Placed.{Placed, forestOf}
 use Rattle.store.specs.Sound.{Holds}
 use Rattle.store.proofs.SoundView.{sound-view}

@@ -6,7 +6,7 @@ use lib.ListN.{getD}
 use Rattle.pktree.specs.PixelSet.{member}
 use Rattle.pktree.specs.Tree.{tree}
 use Rattle.pktree.specs.Window.{openedByPixel}
-use Rattle.store.specs.Sizes.{panelOf, slotWidth, sizesOf}
+use Rattle.measures.specs.Sizes.{panelOf, slotWidth, sizesOf}
 use Rattle.store.specs.Opening.{CannotOpen}
 use Rattle.store.specs.Sound.{Holds}
 use Rattle.query.specs.declared.ask.Asked.{Asked}

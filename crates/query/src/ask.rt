@@ -1,10 +1,10 @@
 ghost use mathlib.Core.Path.{_≡_};
 ghost use Rattle.pktree.specs.Panel.{OnPanel};
-ghost use Rattle.store.specs.Sizes.{UsableStore, panelOf, sizesOf};
+ghost use Rattle.measures.specs.Sizes.{UsableStore, panelOf, sizesOf};
 ghost use Rattle.query.specs.Asking.{AskAnswer};
 use descent::locate;
-use store::sizes::Sizes;
-use store::sizes::layout_of;
+use measures::sizes::Sizes;
+use measures::sizes::layout_of;
 
 pub enum Asked {
     Known { marked: bool, opened: usize },

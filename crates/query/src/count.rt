@@ -2,21 +2,21 @@ ghost use Prim.Native.Nat.{_+_, _<_};
 ghost use mathlib.Core.Path.{_≡_};
 ghost use Rattle.query.specs.Counting.{CanCount, PixelCounted, SeenAtMost, CountMeets, CountAnswer};
 ghost use Rattle.query.specs.Corners.{windowOf, HasCodes};
-ghost use Rattle.store.specs.Sizes.{UsableStore, sizesOf};
+ghost use Rattle.measures.specs.Sizes.{UsableStore, sizesOf};
 use crate::opened::open_slot;
 use crate::window::Corners;
 use crate::window::Window;
 use crate::window::corners_of;
 use crate::window::has_pixel;
 use crate::window::meets;
+use measures::sizes::Layout;
+use measures::sizes::Sizes;
+use measures::sizes::layout_of;
+use measures::slots::slot_part;
+use measures::slots::wide;
 use store::elements::Element;
 use store::elements::element_at;
 use store::opening::Opening;
-use store::sizes::Layout;
-use store::sizes::Sizes;
-use store::sizes::layout_of;
-use store::slots::slot_part;
-use store::slots::wide;
 
 // What a window walk is given: where the slots lie, the most pixels (01's N), and the window.
 pub struct Look {

@@ -1,10 +1,10 @@
 ghost use Rattle.query.specs.Counting.{SlotOpening};
-ghost use Rattle.store.specs.Layout.{LayoutFits};
+ghost use Rattle.measures.specs.Layout.{LayoutFits};
+use measures::sizes::Layout;
+use measures::slots::slot_part;
+use measures::slots::wide;
 use store::opening::Opening;
 use store::opening::open_part;
-use store::sizes::Layout;
-use store::slots::slot_part;
-use store::slots::wide;
 
 // The number of elements of the block in this slot, before which `opened` blocks were opened: on damaged words too, never more than there are slots.
 pub fn open_slot(

@@ -7,8 +7,8 @@ use lib.Pow.{pow-mono}
 use Rattle.morton.specs.Code.{codeOf}
 use Rattle.morton.proofs.Codes.{interleave-below}
 use Rattle.pktree.specs.Panel.{OnPanel}
-use Rattle.store.specs.declared.sizes.Sizes.{Sizes}
-use Rattle.store.specs.Sizes.{panelOf, sizesOf, UsableStore}
+use Rattle.measures.specs.declared.sizes.Sizes.{Sizes}
+use Rattle.measures.specs.Sizes.{panelOf, sizesOf, UsableStore}
 use Rattle.refusals.specs.Judged.{HasPixelOn}
 
 -- the sizes that were read are those of a usable store

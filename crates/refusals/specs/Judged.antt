@@ -5,8 +5,8 @@ use mathlib.Core.Logic.{_⊎_}
 use mathlib.Core.List.{List}
 use Rattle.morton.specs.Code.{codeOf}
 use Rattle.pktree.specs.Panel.{HasPixel, OnPanel}
-use Rattle.store.specs.declared.sizes.Sizes.{Sizes}
-use Rattle.store.specs.Sizes.{panelOf, sizesOf, UsableStore}
+use Rattle.measures.specs.declared.sizes.Sizes.{Sizes}
+use Rattle.measures.specs.Sizes.{panelOf, sizesOf, UsableStore}
 use Rattle.refusals.specs.declared.PixelJudged.{PixelJudged}
 use Rattle.refusals.specs.declared.PixelJudged.the-variants as pixel
 use Rattle.refusals.specs.declared.WindowJudged.{WindowJudged}

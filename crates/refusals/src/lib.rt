@@ -1,8 +1,8 @@
 // Refusals 3, 4 and 8, which every call but make judges before it looks at a slot.
 ghost use Rattle.refusals.specs.Judged.{JudgedPixel, JudgedWindow};
-use store::sizes::Sizes;
-use store::sizes::SizesRead;
-use store::sizes::read_sizes;
+use measures::sizes::Sizes;
+use measures::sizes::SizesRead;
+use measures::sizes::read_sizes;
 
 pub enum PixelJudged {
     Pixel { sizes: Sizes, code: u32 },

@@ -7,8 +7,8 @@ use mathlib.Core.List.{List}
 use lib.ListN.{length, getD, drop}
 use Rattle.morton.specs.Code.{codeOf}
 use Rattle.pktree.proofs.Absurd.{zero-is-not-one}
-use Rattle.store.specs.declared.sizes.Sizes.{Sizes}
-use Rattle.store.specs.Sizes.{storeWords, sizesOf}
+use Rattle.measures.specs.declared.sizes.Sizes.{Sizes}
+use Rattle.measures.specs.Sizes.{storeWords, sizesOf}
 use Rattle.refusals.specs.Judged.{PixelGiven, PixelRefused}
 use Rattle.update.specs.declared.marks.Marking.{Marking}
 use Rattle.update.specs.declared.marks.Marking.the-variants as marking

@@ -3,7 +3,7 @@ use Prim.Native.Nat.{ℕ}
 use native.Mathlib.Omega.{arith}
 use mathlib.Core.Path.{_≡_, refl, ap}
 use mathlib.Core.List.{List}
-use Rattle.store.specs.Sizes.{UsableStore}
+use Rattle.measures.specs.Sizes.{UsableStore}
 use Rattle.soundness.specs.IsSound.{IsSound}
 use Rattle.register.specs.declared.Checking.the-variants as checking
 use Rattle.register.specs.Answer.{Answer}

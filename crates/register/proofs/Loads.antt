@@ -5,7 +5,7 @@ use mathlib.Core.Path.{_≡_, refl, ap}
 use mathlib.Core.Logic.{inl, inr}
 use mathlib.Core.List.{List}
 use lib.ListN.{length, drop}
-use Rattle.store.specs.Sizes.{storeWords, sizesOf, UsableStore}
+use Rattle.measures.specs.Sizes.{storeWords, sizesOf, UsableStore}
 use Rattle.loading.specs.declared.load.Loaded.{Loaded}
 use Rattle.loading.specs.declared.load.Loaded.the-variants as loaded
 use Rattle.loading.specs.Loaded.{HasImage, panelIn, mostIn, LoadAnswer}

@@ -12,8 +12,8 @@ use Rattle.pktree.specs.PixelSet.{member}
 use Rattle.pktree.specs.Tree.{tree}
 use Rattle.pktree.specs.Window.{found, openedByPixel, openedByWindow}
 use Rattle.pktree.proofs.Absurd.{zero-is-not-one}
-use Rattle.store.specs.declared.sizes.Sizes.{Sizes}
-use Rattle.store.specs.Sizes.{panelOf, sizesOf, UsableStore}
+use Rattle.measures.specs.declared.sizes.Sizes.{Sizes}
+use Rattle.measures.specs.Sizes.{panelOf, sizesOf, UsableStore}
 use Rattle.refusals.specs.Judged.{PixelGiven, PixelRefused, CornersOn, WindowGiven, WindowRefused}
 use Rattle.query.specs.declared.ask.Asked.the-variants as asked
 use Rattle.query.specs.Asking.{AskAnswer}

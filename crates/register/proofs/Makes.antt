@@ -5,10 +5,10 @@ use mathlib.Core.Path.{_≡_, refl, ap, sym, subst, _∙_}
 use mathlib.Core.List.{List}
 use lib.ListN.{length, drop}
 use lib.Seq.{drop-drop}
-use Rattle.store.specs.Sizes.{ValidSizes, storeWords, sizesOf, WroteSizes}
+use Rattle.measures.specs.Sizes.{ValidSizes, storeWords, sizesOf, WroteSizes}
 use Rattle.store.specs.Emptied.{Emptied}
-use Rattle.store.proofs.SlotWrites.{take-less}
-use Rattle.store.proofs.Usable.{sizes-kept}
+use Rattle.measures.proofs.SlotWrites.{take-less}
+use Rattle.measures.proofs.Usable.{sizes-kept}
 use Rattle.register.specs.declared.Outcome.the-variants.{Done, Refused}
 use Rattle.register.specs.Make.{asked, MakeMeets}
 

@@ -6,11 +6,11 @@ use mathlib.Core.Path.{_≡_}
 use mathlib.Core.Logic.{inl, inr}
 use mathlib.Core.List.{List}
 use lib.ListN.{getD}
-use Rattle.store.specs.declared.sizes.Sizes.{Sizes}
-use Rattle.store.specs.Sizes.{slotCount, slotWidth, UsableStore}
-use Rattle.store.specs.Slot.{slotPart}
+use Rattle.measures.specs.declared.sizes.Sizes.{Sizes}
+use Rattle.measures.specs.Sizes.{slotCount, slotWidth, UsableStore}
+use Rattle.measures.specs.Slot.{slotPart}
 use Rattle.store.specs.Opening.{CannotOpen}
-use Rattle.store.proofs.SlotWrites.{slot-word}
+use Rattle.measures.proofs.SlotWrites.{slot-word}
 use Rattle.refusals.specs.Judged.{HasPixelOn, PixelGiven, PixelRefused}
 use Rattle.register.specs.Answer.{Answer, refused}
 use Rattle.register.specs.Spoiled.{Spoiled}

@@ -8,7 +8,7 @@ use Rattle.morton.specs.Code.{codeOf}
 use Rattle.pktree.specs.PixelSet.{member}
 use Rattle.pktree.specs.Tree.{tree}
 use Rattle.pktree.specs.Window.{openedByPixel}
-use Rattle.store.specs.Sizes.{panelOf, sizesOf, UsableStore}
+use Rattle.measures.specs.Sizes.{panelOf, sizesOf, UsableStore}
 use Rattle.store.specs.Sound.{Holds}
 use Rattle.refusals.specs.Judged.{HasPixelOn}
 use Rattle.register.specs.declared.Asking.{Asking}

@@ -3,7 +3,7 @@ use Prim.Native.Nat.{ℕ}
 use mathlib.Core.Path.{_≡_}
 use mathlib.Core.List.{List}
 use lib.ListN.{length, getD, drop}
-use Rattle.store.specs.Sizes.{storeWords, sizesOf}
+use Rattle.measures.specs.Sizes.{storeWords, sizesOf}
 use Rattle.register.specs.Answer.{Answer}
 
 pub record WordsLeft (before after : List ℕ) (a : Answer) : Type 0 where

@@ -3,7 +3,7 @@ use Prim.Native.Nat.{ℕ}
 use mathlib.Core.Path.{_≡_}
 use mathlib.Core.Logic.{_↔_}
 use mathlib.Core.List.{List}
-use Rattle.store.specs.Sizes.{UsableStore}
+use Rattle.measures.specs.Sizes.{UsableStore}
 use Rattle.soundness.specs.IsSound.{IsSound}
 use Rattle.register.specs.declared.Checking.{Checking}
 use Rattle.register.specs.Answer.{accepted, refused, checkAnswer}

@@ -7,7 +7,7 @@ use lib.ListN.{length, getD, drop}
 use Rattle.pktree.specs.PixelSet.{member}
 use Rattle.pktree.specs.Tree.{tree}
 use Rattle.pktree.specs.Window.{found, openedByWindow}
-use Rattle.store.specs.Sizes.{panelOf, slotCount, sizesOf, UsableStore}
+use Rattle.measures.specs.Sizes.{panelOf, slotCount, sizesOf, UsableStore}
 use Rattle.store.specs.Sound.{Holds}
 use Rattle.refusals.specs.Judged.{CornersOn}
 use Rattle.register.specs.declared.Listing.{Listing}

@@ -4,7 +4,7 @@ use mathlib.Core.Path.{_≡_}
 use mathlib.Core.Logic.{_⊎_, _↔_}
 use mathlib.Core.List.{List}
 use lib.ListN.{length, take, drop}
-use Rattle.store.specs.Sizes.{storeWords, sizesOf, UsableStore}
+use Rattle.measures.specs.Sizes.{storeWords, sizesOf, UsableStore}
 use Rattle.store.specs.Sound.{Holds}
 use Rattle.image.specs.Judged.{WellFormed, FitsRegister, ImageOfSome}
 use Rattle.loading.specs.Loaded.{HasImage, SomeHasImage, panelIn, mostIn}

@@ -4,8 +4,8 @@ use mathlib.Core.Path.{_≡_}
 use mathlib.Core.Logic.{_↔_}
 use mathlib.Core.List.{List, []}
 use lib.ListN.{length, drop}
-use Rattle.store.specs.declared.sizes.Sizes.{Sizes}
-use Rattle.store.specs.Sizes.{ValidSizes, storeWords, sizesOf}
+use Rattle.measures.specs.declared.sizes.Sizes.{Sizes}
+use Rattle.measures.specs.Sizes.{ValidSizes, storeWords, sizesOf}
 use Rattle.store.specs.Sound.{Holds}
 use Rattle.register.specs.declared.Outcome.{Outcome}
 use Rattle.register.specs.Answer.{answer}

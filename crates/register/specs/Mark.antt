@@ -7,7 +7,7 @@ use mathlib.Core.List.{List}
 use lib.ListN.{length, getD}
 use Rattle.morton.specs.Code.{codeOf}
 use Rattle.pktree.specs.PixelSet.{member, added}
-use Rattle.store.specs.Sizes.{sizesOf, UsableStore}
+use Rattle.measures.specs.Sizes.{sizesOf, UsableStore}
 use Rattle.store.specs.Sound.{Holds}
 use Rattle.refusals.specs.Judged.{HasPixelOn}
 use Rattle.register.specs.declared.Outcome.{Outcome}

@@ -3,7 +3,7 @@ use Prim.Native.Nat.{ℕ}
 use mathlib.Core.Path.{_≡_}
 use mathlib.Core.Logic.{_↔_}
 use mathlib.Core.List.{List}
-use Rattle.store.specs.Sizes.{UsableStore}
+use Rattle.measures.specs.Sizes.{UsableStore}
 use Rattle.refusals.specs.Judged.{HasPixelOn}
 use Rattle.register.specs.Answer.{Answer}
 use Rattle.register.specs.Spoiled.{Spoiled}

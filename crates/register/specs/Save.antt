@@ -5,7 +5,7 @@ use mathlib.Core.Logic.{_⊎_, _↔_}
 use mathlib.Core.List.{List, _++_}
 use lib.ListN.{length, getD, drop}
 use Rattle.pktree.specs.Image.{image}
-use Rattle.store.specs.Sizes.{panelOf, slotCount, sizesOf, UsableStore}
+use Rattle.measures.specs.Sizes.{panelOf, slotCount, sizesOf, UsableStore}
 use Rattle.store.specs.Sound.{Holds}
 use Rattle.register.specs.declared.Saving.{Saving}
 use Rattle.register.specs.Answer.{accepted, short, saveAnswer}

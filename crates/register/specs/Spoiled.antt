@@ -3,7 +3,7 @@ use Prim.Native.Nat.{ℕ, _≤_, _<_}
 use mathlib.Core.Path.{_≡_}
 use mathlib.Core.List.{List}
 use lib.ListN.{getD}
-use Rattle.store.specs.Sizes.{storeWords, sizesOf}
+use Rattle.measures.specs.Sizes.{storeWords, sizesOf}
 
 abbrev pub Spoiled : List ℕ → Type 0
 Spoiled words = (i : ℕ) → 4 ≤ i → i < storeWords (sizesOf words) → getD words i 0 ≡ 0xFFFFFFFF

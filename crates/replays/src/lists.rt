@@ -1,9 +1,9 @@
 use crate::drawn::word_drawn;
 use crate::lent::codes_64;
+use measures::slots::wide;
 use register::Listing;
 use register::Saving;
 use register::refusal_of;
-use store::slots::wide;
 
 pub fn replay_all(
     first: &mut [u32],

@@ -6,13 +6,13 @@ use mathlib.Core.Path.{_≡_, refl, ap, sym, _∙_}
 use mathlib.Core.List.{List}
 use lib.ListN.{length, getD}
 use lib.Seq.{paste}
-use Rattle.store.specs.declared.sizes.Layout.{Layout}
+use Rattle.measures.specs.declared.sizes.Layout.{Layout}
 use Rattle.store.specs.declared.free.FreeSlot.the-variants.{Taken}
-use Rattle.store.specs.Slot.{slotPart, countWord, nextWord, OnlySlot}
+use Rattle.measures.specs.Slot.{slotPart, countWord, nextWord, OnlySlot}
 use Rattle.store.specs.Splice.{elementsIn, CanSplice, withHeader}
 use Rattle.store.specs.FreeSlots.{TookFree}
-use Rattle.store.proofs.SlotWrites.{SlotWritten, HeadWritten, head-word-set}
-use Rattle.store.proofs.Usable.{slot-long}
+use Rattle.measures.proofs.SlotWrites.{SlotWritten, HeadWritten, head-word-set}
+use Rattle.measures.proofs.Usable.{slot-long}
 use Rattle.rewrite.specs.Rewrite.{CanCut, SlotNow, SplicedSlot, RunMoved, BlockFormed, blockWords, runWords}
 use Rattle.rewrite.proofs.SlotNows.{header-kept, slot-wrote, spliced-now}
 use Rattle.rewrite.proofs.Runs.{run-within, run-whole, run-long, run-fits}

@@ -6,12 +6,12 @@ use mathlib.Core.Path.{_≡_, _∙_}
 use mathlib.Core.List.{List, [], _∷_, _++_, append-assoc}
 use lib.ListN.{length, take, drop, set, length-drop, length-set}
 use lib.Seq.{paste, length-paste, take-paste, drop-drop, take-take, take-all, take-at, take-suc-set, length-take-le}
-use Rattle.store.specs.declared.sizes.Layout.{Layout}
-use Rattle.store.specs.Layout.{LayoutFits}
-use Rattle.store.specs.Slot.{slotPart, countWord}
+use Rattle.measures.specs.declared.sizes.Layout.{Layout}
+use Rattle.measures.specs.Layout.{LayoutFits}
+use Rattle.measures.specs.Slot.{slotPart, countWord}
 use Rattle.store.specs.Splice.{elementsIn}
-use Rattle.store.proofs.SlotWrites.{drop-take}
-use Rattle.store.proofs.Usable.{slot-long}
+use Rattle.measures.proofs.SlotWrites.{drop-take}
+use Rattle.measures.proofs.Usable.{slot-long}
 use Rattle.rewrite.specs.Rewrite.{RunWithin, CanCut, runWords, withBlock}
 use Rattle.rewrite.proofs.SlotNows.{elements-long}
 

@@ -6,7 +6,7 @@ use mathlib.Core.List.{List, [], _∷_, _++_, append-assoc}
 use lib.ListN.{length, getD, take, drop, set, length-drop, List·getD-append}
 use lib.Seq.{paste, length-paste, take-at, drop-at, length-take-le, getD-take, getD-set-same, getD-set-other, drop-set-lt}
 use Rattle.pktree.specs.Elements.{size}
-use Rattle.store.specs.Slot.{levelWord, codeWord, countWord}
+use Rattle.measures.specs.Slot.{levelWord, codeWord, countWord}
 use Rattle.store.specs.Splice.{elementsIn, CanSplice, Spliced, withHeader}
 use Rattle.store.specs.Placed.{Placed, forestOf}
 use Rattle.store.proofs.Standing.{elementWords, SlotSays}

@@ -4,12 +4,12 @@ use mathlib.Core.Path.{_≡_}
 use mathlib.Core.List.{List, [], _∷_, _++_}
 use lib.ListN.{length, getD, take, drop, set}
 use lib.Seq.{paste}
-use Rattle.store.specs.declared.sizes.Layout.{Layout}
-use Rattle.store.specs.Layout.{LayoutFits}
-use Rattle.store.specs.Slot.{slotPart, levelWord, codeWord, countWord, nextWord, OnlySlot}
+use Rattle.measures.specs.declared.sizes.Layout.{Layout}
+use Rattle.measures.specs.Layout.{LayoutFits}
+use Rattle.measures.specs.Slot.{slotPart, levelWord, codeWord, countWord, nextWord, OnlySlot}
 use Rattle.store.specs.Splice.{elementsIn, Spliced}
 use Rattle.store.specs.FreeSlots.{Released}
-use Rattle.store.proofs.SlotWrites.{SlotWritten}
+use Rattle.measures.proofs.SlotWrites.{SlotWritten}
 use Rattle.rewrite.specs.declared.Forming.{Forming}
 use Rattle.rewrite.specs.declared.Forming.the-variants.{Formed, NoSlot}
 

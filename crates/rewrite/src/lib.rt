@@ -3,21 +3,21 @@ ghost use Prim.Native.Nat.{_+_, _*_, _≤_, _<_};
 ghost use mathlib.Core.Path.{_≡_};
 ghost use lib.ListN.{length};
 ghost use lib.Seq.{paste};
-ghost use Rattle.store.specs.Layout.{LayoutFits};
-ghost use Rattle.store.specs.Slot.{slotPart};
+ghost use Rattle.measures.specs.Layout.{LayoutFits};
+ghost use Rattle.measures.specs.Slot.{slotPart};
 ghost use Rattle.store.specs.Splice.{elementsIn, CanSplice, withHeader};
-ghost use Rattle.store.proofs.SlotWrites.{SlotWritten};
+ghost use Rattle.measures.proofs.SlotWrites.{SlotWritten};
 ghost use Rattle.rewrite.specs.Rewrite.{RunWithin, CanCut, CanLayBeside, CanHandUp, runWords, SplicedSlot, RunMoved, LaidBeside, FormMeets, HandedUpBlock, HandedUpAll};
+use measures::sizes::Layout;
+use measures::slots::offset;
+use measures::slots::slot_part;
+use measures::slots::wide;
 use store::elements::copy_words;
 use store::elements::splice;
 use store::elements::write_header;
 use store::free::FreeSlot;
 use store::free::release;
 use store::free::take_free;
-use store::sizes::Layout;
-use store::slots::offset;
-use store::slots::slot_part;
-use store::slots::wide;
 
 // The elements of a slot written anew; its header is left to `head_slot`.
 fn lay_elements(store: &mut [u32], layout: Layout, slot: usize, source: &[u32], count: usize)

@@ -8,11 +8,11 @@ use Rattle.pktree.specs.Elements.{Forest, empty, block}
 use Rattle.pktree.specs.Tree.{blocks}
 use Rattle.pktree.proofs.Absurd.{zero-is-not-one}
 use Rattle.pktree.proofs.Forests.{length-blocks}
-use Rattle.store.specs.declared.sizes.Layout.{Layout}
-use Rattle.store.specs.declared.sizes.Sizes.{Sizes}
-use Rattle.store.specs.Layout.{layoutOf, LayoutFits, LaidOut}
+use Rattle.measures.specs.declared.sizes.Layout.{Layout}
+use Rattle.measures.specs.declared.sizes.Sizes.{Sizes}
+use Rattle.measures.specs.Layout.{layoutOf, LayoutFits, LaidOut}
 use Rattle.store.specs.Placed.{forestOf}
-use Rattle.store.specs.Sizes.{sizesOf, UsableStore}
+use Rattle.measures.specs.Sizes.{sizesOf, UsableStore}
 use Rattle.store.specs.Sound.{Holds}
 use Rattle.store.proofs.BlockView.{root-view}
 use Rattle.store.proofs.SoundView.{sound-view}

@@ -9,11 +9,11 @@ use Rattle.pktree.specs.Image.{image}
 use Rattle.pktree.specs.Tree.{blocks}
 use Rattle.pktree.proofs.Images.{image-length}
 use Rattle.pktree.proofs.Absurd.{zero-is-not-one}
-use Rattle.store.specs.declared.sizes.Sizes.{Sizes}
-use Rattle.store.specs.declared.sizes.Layout.{Layout}
-use Rattle.store.specs.Layout.{LaidOut}
+use Rattle.measures.specs.declared.sizes.Sizes.{Sizes}
+use Rattle.measures.specs.declared.sizes.Layout.{Layout}
+use Rattle.measures.specs.Layout.{LaidOut}
 use Rattle.store.specs.Opening.{CannotOpen}
-use Rattle.store.specs.Sizes.{panelOf, slotWidth, UsableStore, sizesOf}
+use Rattle.measures.specs.Sizes.{panelOf, slotWidth, UsableStore, sizesOf}
 use Rattle.store.specs.Sound.{Holds}
 use Rattle.saving.specs.declared.numbers.Numbers.{Numbers}
 use Rattle.saving.specs.declared.numbers.Numbers.the-variants.{Said, Damaged}

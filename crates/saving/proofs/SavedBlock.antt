@@ -8,7 +8,7 @@ use Rattle.pktree.specs.Elements.{Forest, empty, block}
 use Rattle.pktree.specs.Entries.{entries}
 use Rattle.store.specs.declared.elements.Element.{Element}
 use Rattle.store.specs.declared.elements.Element.the-variants.{Pixel, Block}
-use Rattle.store.specs.Layout.{LayoutFits}
+use Rattle.measures.specs.Layout.{LayoutFits}
 use Rattle.store.specs.Placed.{forestOf}
 use Rattle.saving.specs.declared.Saving.{Saving}
 use Rattle.saving.specs.declared.Saved.{Saved}

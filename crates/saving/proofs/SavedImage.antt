@@ -13,9 +13,9 @@ use Rattle.pktree.specs.Entries.{Entry, entries}
 use Rattle.pktree.specs.Image.{codeBytes, levelBytes, header, image}
 use Rattle.pktree.proofs.EntryOrder.{number-of-entries}
 use Rattle.pktree.proofs.Images.{image-length}
-use Rattle.store.specs.Layout.{layoutOf}
+use Rattle.measures.specs.Layout.{layoutOf}
 use Rattle.store.specs.Placed.{forestOf}
-use Rattle.store.specs.Sizes.{panelOf, sizesOf}
+use Rattle.measures.specs.Sizes.{panelOf, sizesOf}
 use Rattle.store.specs.Sound.{Holds}
 use Rattle.store.proofs.BlockView.{root-view}
 use Rattle.store.proofs.SoundView.{sound-view}

@@ -9,7 +9,7 @@ use Rattle.pktree.specs.Elements.{Forest, empty, block, _⧺_}
 use Rattle.pktree.specs.Entries.{entries}
 use Rattle.pktree.proofs.Absurd.{zero-is-not-one}
 use Rattle.store.specs.declared.elements.Element.{Element}
-use Rattle.store.specs.Slot.{slotPart}
+use Rattle.measures.specs.Slot.{slotPart}
 use Rattle.store.specs.Element.{elementAt}
 use Rattle.store.specs.Placed.{Placed, _⧻_, forestOf}
 use Rattle.store.proofs.PlacedJoin.{forest-join}

@@ -6,8 +6,8 @@ use mathlib.Core.List.{List}
 use Rattle.pktree.proofs.Absurd.{zero-is-not-one}
 use Rattle.pktree.proofs.Forests.{blockCount, blockCount-join}
 use Rattle.store.specs.declared.elements.Element.{Element}
-use Rattle.store.specs.declared.sizes.Layout.{Layout}
-use Rattle.store.specs.Slot.{slotPart}
+use Rattle.measures.specs.declared.sizes.Layout.{Layout}
+use Rattle.measures.specs.Slot.{slotPart}
 use Rattle.store.specs.Element.{elementAt}
 use Rattle.store.specs.Placed.{Placed, _⧻_, forestOf}
 use Rattle.store.proofs.PlacedJoin.{forest-join}

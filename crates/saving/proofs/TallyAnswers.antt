@@ -5,8 +5,8 @@ use mathlib.Core.Path.{_≡_, refl, ap, _∙_}
 use mathlib.Core.List.{List}
 use Rattle.store.specs.declared.elements.Element.{Element}
 use Rattle.store.specs.declared.elements.Element.the-variants.{Pixel, Block}
-use Rattle.store.specs.declared.sizes.Layout.{Layout}
-use Rattle.store.specs.Layout.{LayoutFits}
+use Rattle.measures.specs.declared.sizes.Layout.{Layout}
+use Rattle.measures.specs.Layout.{LayoutFits}
 use Rattle.saving.specs.declared.numbers.Tally.{Tally}
 use Rattle.saving.specs.declared.numbers.Tally.the-variants.{Blocks, Damaged}
 use Rattle.saving.specs.Tally.{TallyMeets, TallyElementMeets}

@@ -6,7 +6,7 @@ use lib.ListN.{length, getD}
 use Rattle.pktree.specs.PixelSet.{member}
 use Rattle.pktree.specs.Tree.{tree, blocks}
 use Rattle.store.specs.Opening.{CannotOpen}
-use Rattle.store.specs.Sizes.{panelOf, slotCount, slotWidth, sizesOf}
+use Rattle.measures.specs.Sizes.{panelOf, slotCount, slotWidth, sizesOf}
 use Rattle.store.specs.Sound.{Holds}
 use Rattle.saving.specs.declared.numbers.Numbers.{Numbers}
 use Rattle.saving.specs.declared.numbers.Numbers.the-variants.{Said, Damaged}

@@ -8,10 +8,10 @@ use Rattle.pktree.specs.Elements.{Forest, empty, pixel, block}
 use Rattle.pktree.specs.Entries.{Entry, entries}
 use Rattle.pktree.specs.Image.{fourBytes, image}
 use Rattle.store.specs.Placed.{Placed, forestOf}
-use Rattle.store.specs.Sizes.{panelOf, slotWidth, slotCount, sizesOf}
+use Rattle.measures.specs.Sizes.{panelOf, slotWidth, slotCount, sizesOf}
 use Rattle.store.specs.Sound.{Holds}
 use Rattle.store.specs.Opening.{CannotOpen}
-use Rattle.store.specs.Layout.{LayoutFits}
+use Rattle.measures.specs.Layout.{LayoutFits}
 use Rattle.store.proofs.BlockView.{BlockView, ChildView}
 use Rattle.store.specs.declared.elements.Element.{Element}
 use Rattle.store.specs.declared.elements.Element.the-variants.{Pixel, Block}

@@ -9,7 +9,7 @@ use Rattle.store.specs.Placed.{Placed, forestOf}
 use Rattle.store.proofs.BlockView.{BlockView, ChildView}
 use Rattle.store.specs.declared.elements.Element.{Element}
 use Rattle.store.specs.declared.elements.Element.the-variants.{Pixel, Block}
-use Rattle.store.specs.declared.sizes.Layout.{Layout}
+use Rattle.measures.specs.declared.sizes.Layout.{Layout}
 use Rattle.saving.specs.declared.numbers.Tally.{Tally}
 use Rattle.saving.specs.declared.numbers.Tally.the-variants.{Blocks, Damaged}
 

@@ -3,19 +3,19 @@ ghost use Prim.Native.Nat.{_+_, _*_, _≤_, _<_};
 ghost use mathlib.Core.Path.{_≡_};
 ghost use lib.ListN.{length};
 ghost use Rattle.saving.specs.Saving.{putFour, putEntry, PixelPut, CanSave, SaveMeets, SaveElementMeets, HeaderPut, SaveAnswer};
-ghost use Rattle.store.specs.Sizes.{UsableStore, sizesOf};
+ghost use Rattle.measures.specs.Sizes.{UsableStore, sizesOf};
 ghost use Rattle.store.specs.declared.elements.Element.the-variants.{Block};
 use crate::numbers::Numbers;
 use crate::numbers::read_numbers;
+use measures::sizes::Layout;
+use measures::sizes::Sizes;
+use measures::sizes::layout_of;
+use measures::slots::slot_part;
+use measures::slots::wide;
 use store::elements::Element;
 use store::elements::element_at;
 use store::opening::Opening;
 use store::opening::open_part;
-use store::sizes::Layout;
-use store::sizes::Sizes;
-use store::sizes::layout_of;
-use store::slots::slot_part;
-use store::slots::wide;
 
 pub mod numbers;
 

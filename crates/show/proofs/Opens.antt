@@ -10,8 +10,8 @@ use lib.Dec.{leb}
 use lib.ListN.{length, getD}
 use borrow.Author.Tests.{leb-true}
 use Rattle.pktree.proofs.Absurd.{zero-is-not-one}
-use Rattle.store.specs.declared.sizes.Sizes.{Sizes}
-use Rattle.store.specs.Sizes.{panelOf, storeWords, ValidSizes, sizesOf, UsableStore}
+use Rattle.measures.specs.declared.sizes.Sizes.{Sizes}
+use Rattle.measures.specs.Sizes.{panelOf, storeWords, ValidSizes, sizesOf, UsableStore}
 use Rattle.image.specs.Judged.{FitsRegister, ImageOfSome}
 use Rattle.loading.specs.Loaded.{HasImage}
 use Rattle.register.specs.declared.Outcome.{Outcome}

@@ -4,8 +4,8 @@ use mathlib.Core.Path.{_≡_}
 use mathlib.Core.Logic.{_⊎_}
 use mathlib.Core.List.{List}
 use lib.ListN.{length, getD}
-use Rattle.store.specs.declared.sizes.Sizes.{Sizes}
-use Rattle.store.specs.Sizes.{panelOf, ValidSizes, sizesOf}
+use Rattle.measures.specs.declared.sizes.Sizes.{Sizes}
+use Rattle.measures.specs.Sizes.{panelOf, ValidSizes, sizesOf}
 use Rattle.store.specs.Sound.{Holds}
 use Rattle.image.specs.Judged.{WellFormed, FitsRegister, ImageOfSome}
 use Rattle.loading.specs.Loaded.{HasImage}

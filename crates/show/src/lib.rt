@@ -10,9 +10,9 @@ use image::parts::entry_number;
 use image::parts::is_well_formed;
 use image::parts::levels_part;
 use image::parts::pixel_number;
+use measures::slots::wide;
 use register::Saving;
 use register::refusal_of;
-use store::slots::wide;
 
 // A store for N = 400 with any k.
 pub fn store_for_400() -> [u32; 7208]

@@ -4,16 +4,16 @@ use native.Mathlib.Omega.{arith}
 use mathlib.Core.Path.{_≡_, refl, ap, subst₂}
 use mathlib.Core.List.{List}
 use lib.ListN.{length}
-use Rattle.store.specs.declared.sizes.Layout.{Layout}
-use Rattle.store.specs.Layout.{LayoutFits}
-use Rattle.store.specs.Slot.{slotPart, countWord}
+use Rattle.measures.specs.declared.sizes.Layout.{Layout}
+use Rattle.measures.specs.Layout.{LayoutFits}
+use Rattle.measures.specs.Slot.{slotPart, countWord}
 use Rattle.store.specs.Opening.{HeaderSays, Opened}
 use Rattle.store.specs.declared.opening.Opening.{Opening}
 use Rattle.store.specs.declared.opening.Opening.the-variants.{Elements, Damaged}
 use Rattle.store.specs.Placed.{Placed}
 use Rattle.store.proofs.Standing.{SlotSays}
 use Rattle.store.proofs.BlockView.{elements-lie}
-use Rattle.store.proofs.Usable.{slot-long}
+use Rattle.measures.proofs.Usable.{slot-long}
 use Rattle.soundness.specs.declared.walk.Claim.{Claim}
 use Rattle.soundness.specs.declared.walk.Limits.{Limits}
 use Rattle.soundness.specs.declared.walk.Seen.{Seen}

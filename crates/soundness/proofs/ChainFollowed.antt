@@ -5,8 +5,8 @@ use mathlib.Core.Path.{_≡_, refl, ap, subst, sym, _∙_}
 use mathlib.Core.List.{List, [], _∷_, _++_, append-assoc, append-nil}
 use lib.ListN.{length, getD, length-append}
 use Rattle.pktree.specs.Lists.{Every}
-use Rattle.store.specs.declared.sizes.Layout.{Layout}
-use Rattle.store.specs.Slot.{slotPart, levelWord, nextWord}
+use Rattle.measures.specs.declared.sizes.Layout.{Layout}
+use Rattle.measures.specs.Slot.{slotPart, levelWord, nextWord}
 use Rattle.store.specs.FreeSlots.{noSlot, FreeChain, FreeSlots}
 use Rattle.store.proofs.Standing.{every-join}
 use Rattle.soundness.specs.Chain.{ChainOf, ChainEnds}

@@ -13,13 +13,13 @@ use Rattle.pktree.proofs.Forests.{blockCount}
 use Rattle.pktree.proofs.Arranged.{LocallyRight}
 use Rattle.pktree.proofs.LocalTest.{localTest}
 use Rattle.pktree.proofs.LocalLaw.{tree-exactly-local}
-use Rattle.store.specs.Decides.{Decides}
-use Rattle.store.specs.Sizes.{panelOf, sizesOf, slotCount, slotWidth, UsableStore}
-use Rattle.store.specs.Layout.{layoutOf}
+use Rattle.measures.specs.Decides.{Decides}
+use Rattle.measures.specs.Sizes.{panelOf, sizesOf, slotCount, slotWidth, UsableStore}
+use Rattle.measures.specs.Layout.{layoutOf}
 use Rattle.store.specs.Placed.{Placed, nothing, blockThen, forestOf, slotsOf}
 use Rattle.store.specs.FreeSlots.{noSlot}
 use Rattle.store.specs.Sound.{Sound}
-use Rattle.store.proofs.Bounds.{slot-count-bounded}
+use Rattle.measures.proofs.Bounds.{slot-count-bounded}
 use Rattle.store.proofs.FreeChains.{one-chain}
 use Rattle.store.proofs.Standing.{depth, complete-slot, depth-below-level, every-right, every-join}
 use Rattle.soundness.specs.declared.walk.Seen.{Seen}

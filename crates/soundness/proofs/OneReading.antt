@@ -6,7 +6,7 @@ use mathlib.Core.List.{List, _++_}
 use lib.ListN.{take, drop}
 use lib.Seq.{take-add}
 use Rattle.pktree.specs.Elements.{size}
-use Rattle.store.specs.Slot.{slotPart, elementPart}
+use Rattle.measures.specs.Slot.{slotPart, elementPart}
 use Rattle.store.specs.Placed.{Placed, nothing, pixelThen, blockThen, _⧻_, forestOf}
 use Rattle.store.proofs.Standing.{elementWords, SlotSays, Stands, depth, complete-slot}
 use Rattle.pktree.proofs.Absurd.{zero-is-not-one}

@@ -6,7 +6,7 @@ use mathlib.Core.Path.{_≡_}
 use mathlib.Core.List.{List, [], _∷_, _++_}
 use Rattle.pktree.specs.Lists.{Every}
 use Rattle.pktree.proofs.Arranged.{Arranged}
-use Rattle.store.specs.Slot.{slotPart, levelWord}
+use Rattle.measures.specs.Slot.{slotPart, levelWord}
 use Rattle.store.specs.Placed.{Placed, nothing, blockThen, forestOf, slotsOf}
 use Rattle.store.specs.FreeSlots.{noSlot, FreeChain, occurrences}
 use Rattle.store.proofs.Standing.{SlotSays, Stands}

@@ -9,10 +9,10 @@ use Rattle.pktree.specs.Elements.{Forest}
 use Rattle.pktree.specs.Tree.{pixels}
 use Rattle.pktree.proofs.Arranged.{LocallyRight}
 use Rattle.pktree.proofs.LocalTest.{heads, slotTest, insideTest, localTest, local-test-exact, both}
-use Rattle.store.specs.declared.sizes.Layout.{Layout}
-use Rattle.store.specs.declared.sizes.Sizes.{Sizes}
-use Rattle.store.specs.Sizes.{sizesOf, slotCount, ValidSizes, UsableStore}
-use Rattle.store.specs.Layout.{layoutOf, LaidOut}
+use Rattle.measures.specs.declared.sizes.Layout.{Layout}
+use Rattle.measures.specs.declared.sizes.Sizes.{Sizes}
+use Rattle.measures.specs.Sizes.{sizesOf, slotCount, ValidSizes, UsableStore}
+use Rattle.measures.specs.Layout.{layoutOf, LaidOut}
 use Rattle.store.specs.Placed.{Placed, nothing, blockThen, forestOf}
 use Rattle.store.specs.Sound.{Sound}
 use Rattle.store.proofs.SoundView.{sound-view}

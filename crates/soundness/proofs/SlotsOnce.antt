@@ -9,7 +9,7 @@ use Rattle.pktree.specs.Lists.{Every}
 use Rattle.pktree.proofs.Alignment.{pow-pos}
 use Rattle.pktree.proofs.Forests.{blockCount}
 use Rattle.pktree.proofs.Arranged.{Arranged, arranged-le}
-use Rattle.store.specs.Slot.{slotPart, levelWord, codeWord, nextWord}
+use Rattle.measures.specs.Slot.{slotPart, levelWord, codeWord, nextWord}
 use Rattle.store.specs.Placed.{Placed, nothing, pixelThen, blockThen, forestOf, slotsOf}
 use Rattle.store.specs.FreeSlots.{noSlot, FreeChain, occurrences}
 use Rattle.store.proofs.Standing.{Stands, every-join}

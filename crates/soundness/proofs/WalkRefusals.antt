@@ -9,7 +9,7 @@ use Rattle.pktree.specs.Elements.{size}
 use Rattle.pktree.proofs.LocalTest.{heads, slotTest}
 use Rattle.store.specs.declared.elements.Element.{Element}
 use Rattle.store.specs.Element.{elementAt}
-use Rattle.store.specs.Slot.{countWord}
+use Rattle.measures.specs.Slot.{countWord}
 use Rattle.store.specs.Opening.{HeaderSays}
 use Rattle.store.specs.Placed.{Placed, nothing, pixelThen, blockThen, _⧻_, forestOf}
 use Rattle.store.proofs.PlacedJoin.{forest-join, size-placed-join, placed-assoc, placed-nothing}

@@ -11,7 +11,7 @@ use Rattle.pktree.specs.Elements.{Forest, empty, pixel, block, _⧺_, size}
 use Rattle.pktree.proofs.LocalTest.{heads, passTest, slotTest}
 use Rattle.store.specs.declared.elements.Element.{Element}
 use Rattle.store.specs.Element.{elementAt}
-use Rattle.store.specs.Slot.{slotPart, elementPart}
+use Rattle.measures.specs.Slot.{slotPart, elementPart}
 use Rattle.store.specs.Placed.{Placed, nothing, _⧻_, forestOf}
 use Rattle.store.proofs.Standing.{elementWords}
 use Rattle.store.proofs.PlacedJoin.{forest-join, words-join, size-placed-join}

@@ -4,7 +4,7 @@ use mathlib.Core.Path.{_≡_}
 use mathlib.Core.List.{List}
 use lib.ListN.{length}
 use Rattle.pktree.specs.Lists.{Every}
-use Rattle.store.specs.declared.sizes.Layout.{Layout}
+use Rattle.measures.specs.declared.sizes.Layout.{Layout}
 use Rattle.store.specs.FreeSlots.{FreeSlots}
 use Rattle.soundness.specs.declared.chain.Chain.{Chain}
 use Rattle.soundness.specs.declared.chain.Chain.the-variants.{Ends, Broken}

@@ -11,8 +11,8 @@ use Rattle.pktree.proofs.Forests.{blockCount}
 use Rattle.pktree.proofs.LocalTest.{heads, slotTest, insideTest}
 use Rattle.store.specs.declared.elements.Element.{Element}
 use Rattle.store.specs.declared.elements.Element.the-variants.{Pixel, Block}
-use Rattle.store.specs.Layout.{LayoutFits}
-use Rattle.store.specs.Slot.{slotPart}
+use Rattle.measures.specs.Layout.{LayoutFits}
+use Rattle.measures.specs.Slot.{slotPart}
 use Rattle.store.specs.Placed.{Placed, nothing, pixelThen, blockThen, forestOf, slotsOf}
 use Rattle.store.proofs.Standing.{SlotSays, Stands}
 use Rattle.store.specs.declared.opening.Opening.{Opening}

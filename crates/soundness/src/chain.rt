@@ -1,8 +1,8 @@
-ghost use Rattle.store.specs.Layout.{LayoutFits};
+ghost use Rattle.measures.specs.Layout.{LayoutFits};
 ghost use Rattle.soundness.specs.Chain.{ChainMeets};
-use store::sizes::Layout;
-use store::slots::offset;
-use store::slots::wide;
+use measures::sizes::Layout;
+use measures::slots::offset;
+use measures::slots::wide;
 
 // The end of the chain of free slots.
 const NO_SLOT: u32 = 0xFFFFFFFF;

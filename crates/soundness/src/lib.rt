@@ -1,7 +1,7 @@
 // Whether a store is sound: the core of 01's check. It only reads, looks at no more blocks than there are slots, and keeps no scratch memory.
 ghost use mathlib.Core.Path.{_≡_};
-ghost use Rattle.store.specs.Decides.{Decides};
-ghost use Rattle.store.specs.Sizes.{UsableStore, sizesOf};
+ghost use Rattle.measures.specs.Decides.{Decides};
+ghost use Rattle.measures.specs.Sizes.{UsableStore, sizesOf};
 ghost use Rattle.soundness.specs.IsSound.{IsSound};
 use crate::chain::Chain;
 use crate::chain::count_free;
@@ -10,9 +10,9 @@ use crate::walk::Limits;
 use crate::walk::Seen;
 use crate::walk::Walked;
 use crate::walk::walk_block;
-use store::sizes::Sizes;
-use store::sizes::layout_of;
-use store::slots::wide;
+use measures::sizes::Sizes;
+use measures::sizes::layout_of;
+use measures::slots::wide;
 
 mod chain;
 mod pass;

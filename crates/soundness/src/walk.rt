@@ -4,13 +4,13 @@ use crate::pass::Passing;
 use crate::pass::block_end;
 use crate::pass::first_pass;
 use crate::pass::pass_element;
+use measures::sizes::Layout;
+use measures::slots::slot_part;
+use measures::slots::wide;
 use store::elements::Element;
 use store::elements::element_at;
 use store::opening::Opening;
 use store::opening::open_part;
-use store::sizes::Layout;
-use store::slots::slot_part;
-use store::slots::wide;
 
 // What a walk is given: where the slots lie, k, and the most pixels (01's N).
 pub struct Limits {

@@ -4,12 +4,12 @@ use native.Mathlib.Omega.{arith}
 use mathlib.Core.Path.{_≡_, sym}
 use mathlib.Core.List.{List}
 use lib.ListN.{length, getD}
-use Rattle.store.specs.declared.sizes.Layout.{Layout}
-use Rattle.store.specs.Layout.{LayoutFits, SlotOffset}
-use Rattle.store.specs.Slot.{slotPart, countWord}
+use Rattle.measures.specs.declared.sizes.Layout.{Layout}
+use Rattle.measures.specs.Layout.{LayoutFits, SlotOffset}
+use Rattle.measures.specs.Slot.{slotPart, countWord}
 use Rattle.store.specs.Splice.{CanSplice}
-use Rattle.store.proofs.SlotWrites.{slot-word}
-use Rattle.store.proofs.Usable.{slot-long}
+use Rattle.measures.proofs.SlotWrites.{slot-word}
+use Rattle.measures.proofs.Usable.{slot-long}
 
 module _ (layout : Layout) (words : List ℕ) (slot at : ℕ) (fits : LayoutFits layout words) (below : slot < layout .slots) (o : SlotOffset layout slot at) where
   -- the number of elements, read in the store

@@ -9,11 +9,11 @@ use lib.Seq.{take-set-le, take-take}
 use Rattle.pktree.specs.Elements.{size}
 use Rattle.pktree.proofs.Alignment.{blockCode}
 use Rattle.pktree.proofs.Absurd.{zero-is-not-one}
-use Rattle.store.specs.declared.sizes.Layout.{Layout}
-use Rattle.store.specs.Layout.{LayoutFits}
-use Rattle.store.specs.Slot.{OnlySlot}
+use Rattle.measures.specs.declared.sizes.Layout.{Layout}
+use Rattle.measures.specs.Layout.{LayoutFits}
+use Rattle.measures.specs.Slot.{OnlySlot}
 use Rattle.store.specs.Placed.{Placed, forestOf}
-use Rattle.store.proofs.SlotWrites.{take-less}
+use Rattle.measures.proofs.SlotWrites.{take-less}
 use Rattle.descent.specs.Way.{Frame}
 use Rattle.rewrite.specs.declared.Forming.the-variants.{NoSlot}
 use Rattle.rewrite.specs.Rewrite.{HandedUpBlock, BlockFormed, FormMeets}

@@ -9,13 +9,13 @@ use lib.ListN.{length, getD, take, drop}
 use lib.Seq.{getD-take, getD-set-same, length-take-le}
 use Rattle.pktree.specs.Elements.{size}
 use Rattle.pktree.proofs.Arranged.{LocallyRight}
-use Rattle.store.specs.declared.sizes.Layout.{Layout}
-use Rattle.store.specs.Layout.{LayoutFits, storeEnd}
-use Rattle.store.specs.Slot.{slotPart, levelWord, countWord}
+use Rattle.measures.specs.declared.sizes.Layout.{Layout}
+use Rattle.measures.specs.Layout.{LayoutFits, storeEnd}
+use Rattle.measures.specs.Slot.{slotPart, levelWord, countWord}
 use Rattle.store.specs.Splice.{CanSplice}
 use Rattle.store.specs.FreeSlots.{Released}
 use Rattle.store.specs.Placed.{Placed, _⧻_, forestOf}
-use Rattle.store.proofs.Usable.{slot-long}
+use Rattle.measures.proofs.Usable.{slot-long}
 use Rattle.descent.specs.Way.{Frame}
 use Rattle.runs.specs.declared.Run.{Run}
 use Rattle.runs.specs.declared.Run.the-variants.{Formed, Nothing}

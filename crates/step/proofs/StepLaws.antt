@@ -11,15 +11,15 @@ use Rattle.pktree.specs.Tree.{pixels}
 use Rattle.pktree.proofs.Forests.{size-join, pixels-join, blockCount, blockCount-join}
 use Rattle.pktree.proofs.Alignment.{blockCode}
 use Rattle.pktree.proofs.Arranged.{quarterLevel, Arranged, LocallyRight}
-use Rattle.store.specs.Slot.{slotPart, levelWord, nextWord}
+use Rattle.measures.specs.Slot.{slotPart, levelWord, nextWord}
 use Rattle.store.specs.Splice.{elementsIn, CanSplice}
-use Rattle.store.specs.Layout.{LayoutFits}
+use Rattle.measures.specs.Layout.{LayoutFits}
 use Rattle.store.specs.Placed.{Placed, blockThen, _⧻_, forestOf, slotsOf}
 use Rattle.store.specs.FreeSlots.{FreeSlots, occurrences}
 use Rattle.store.proofs.Standing.{elementWords, SlotSays, Stands, frame, every-left, every-right}
 use Rattle.store.proofs.PlacedJoin.{forest-join, slots-join, size-placed-join, stands-join, stands-parts}
-use Rattle.store.proofs.SlotWrites.{HeadWritten, word-in-front}
-use Rattle.store.proofs.Usable.{slot-long}
+use Rattle.measures.proofs.SlotWrites.{HeadWritten, word-in-front}
+use Rattle.measures.proofs.Usable.{slot-long}
 use Rattle.store.proofs.BlockView.{elements-lie}
 use Rattle.store.proofs.FreeChains.{absent, every-map, free-kept, first-taken, none-free, occurrences-join, occurrences-same}
 use Rattle.descent.specs.Way.{Frame}

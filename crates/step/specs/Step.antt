@@ -6,9 +6,9 @@ use mathlib.Core.Logic.{_⊎_}
 use mathlib.Core.List.{List, [], _∷_}
 use lib.ListN.{length, take, drop}
 use Rattle.pktree.specs.Elements.{size}
-use Rattle.store.specs.declared.sizes.Layout.{Layout}
-use Rattle.store.specs.Layout.{LayoutFits, storeEnd}
-use Rattle.store.specs.Slot.{slotPart, countWord}
+use Rattle.measures.specs.declared.sizes.Layout.{Layout}
+use Rattle.measures.specs.Layout.{LayoutFits, storeEnd}
+use Rattle.measures.specs.Slot.{slotPart, countWord}
 use Rattle.store.specs.Splice.{CanSplice}
 use Rattle.store.specs.Placed.{Placed, nothing, blockThen, forestOf}
 use Rattle.store.proofs.Standing.{elementWords}

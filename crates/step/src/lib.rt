@@ -4,6 +4,10 @@ ghost use mathlib.Core.Path.{_≡_};
 ghost use Rattle.pktree.proofs.Alignment.{blockCode};
 ghost use Rattle.rewrite.specs.Rewrite.{CanHandUp};
 ghost use Rattle.step.specs.Step.{CanPut, PutMeets, CanRegroup, RegroupMeets, SettleMeets, StepMeets};
+use measures::sizes::Layout;
+use measures::slots::offset;
+use measures::slots::slot_part;
+use measures::slots::wide;
 use rewrite::Forming;
 use rewrite::form_block;
 use rewrite::hand_up_all;
@@ -12,10 +16,6 @@ use rewrite::splice_slot;
 use runs::Run;
 use runs::block_size;
 use runs::find_run;
-use store::sizes::Layout;
-use store::slots::offset;
-use store::slots::slot_part;
-use store::slots::wide;
 
 // Where the slots lie, k, and the code at which the set changes.
 pub struct Change {

@@ -7,12 +7,12 @@ use mathlib.Core.List.{List}
 use lib.ListN.{length, take, drop, set}
 use lib.Seq.{take-set-le, take-set-lt, getD-set-same}
 use Rattle.pktree.specs.Lists.{Every}
-use Rattle.store.specs.declared.sizes.Layout.{Layout}
-use Rattle.store.specs.Layout.{LayoutFits, storeEnd}
-use Rattle.store.specs.Slot.{slotPart}
+use Rattle.measures.specs.declared.sizes.Layout.{Layout}
+use Rattle.measures.specs.Layout.{LayoutFits, storeEnd}
+use Rattle.measures.specs.Slot.{slotPart}
 use Rattle.store.specs.FreeSlots.{noSlot, FreeSlots, occurrences, Released}
 use Rattle.store.specs.Emptied.{numbersFrom, AllFree}
-use Rattle.store.proofs.SlotWrites.{take-less, head-word-set}
+use Rattle.measures.proofs.SlotWrites.{take-less, head-word-set}
 use Rattle.store.proofs.FreeChains.{occurrences-same, occurrences-other, chain-released}
 
 -- of the numbers from `first` on, those before it are none

@@ -12,8 +12,8 @@ use Rattle.pktree.specs.Elements.{Forest, empty, pixel, block, _⧺_, size}
 use Rattle.pktree.proofs.Alignment.{aligned-root}
 use Rattle.pktree.proofs.Arranged.{Arranged, LocallyRight, arranged-le}
 use Rattle.store.specs.declared.elements.Element.the-variants.{Pixel, Block}
-use Rattle.store.specs.Sizes.{slotCount, slotWidth}
-use Rattle.store.specs.Slot.{slotPart, elementPart}
+use Rattle.measures.specs.Sizes.{slotCount, slotWidth}
+use Rattle.measures.specs.Slot.{slotPart, elementPart}
 use Rattle.store.specs.Element.{elementOf, elementAt}
 use Rattle.store.specs.Placed.{Placed, nothing, pixelThen, blockThen, _⧻_, forestOf, slotsOf}
 use Rattle.store.specs.Sound.{Sound}

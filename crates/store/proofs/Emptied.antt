@@ -9,21 +9,21 @@ use Rattle.pktree.specs.Lists.{Every}
 use Rattle.pktree.specs.PixelSet.{member}
 use Rattle.pktree.specs.Elements.{empty, give, gather}
 use Rattle.pktree.proofs.Forests.{give-elements}
-use Rattle.store.specs.declared.sizes.Sizes.{Sizes}
-use Rattle.store.specs.declared.sizes.Layout.{Layout}
-use Rattle.store.specs.Sizes.{slotCount, slotWidth, sizesOf, UsableStore}
-use Rattle.store.specs.Layout.{layoutOf, storeEnd, LaidOut, LayoutFits}
-use Rattle.store.specs.Slot.{slotPart, levelWord, codeWord, countWord}
+use Rattle.measures.specs.declared.sizes.Sizes.{Sizes}
+use Rattle.measures.specs.declared.sizes.Layout.{Layout}
+use Rattle.measures.specs.Sizes.{slotCount, slotWidth, sizesOf, UsableStore}
+use Rattle.measures.specs.Layout.{layoutOf, storeEnd, LaidOut, LayoutFits}
+use Rattle.measures.specs.Slot.{slotPart, levelWord, codeWord, countWord}
 use Rattle.store.specs.Splice.{withHeader}
 use Rattle.store.specs.Placed.{nothing, blockThen}
 use Rattle.store.specs.FreeSlots.{FreeSlots}
 use Rattle.store.specs.Sound.{SlotsShared, Holds}
 use Rattle.store.specs.Emptied.{numbersFrom, AllFree, Emptied}
 use Rattle.store.proofs.Standing.{SlotSays, complete-slot}
-use Rattle.store.proofs.SlotWrites.{SlotWritten, take-less, word-in-front, slot-length, head-word-set}
+use Rattle.measures.proofs.SlotWrites.{SlotWritten, take-less, word-in-front, slot-length, head-word-set}
 use Rattle.store.proofs.FreeChains.{every-map, free-kept, absent}
 use Rattle.store.proofs.AllFree.{numbers-before, numbers-once, numbers-inside}
-use Rattle.store.proofs.Usable.{sizes-kept, usable-kept, layout-fits, slot-within}
+use Rattle.measures.proofs.Usable.{sizes-kept, usable-kept, layout-fits, slot-within}
 
 -- no quarter has an element to give
 gather-of-none : (k level code : ℕ) → 0 < k → gather (member []) k level code ≡ empty

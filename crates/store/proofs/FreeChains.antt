@@ -12,12 +12,12 @@ use lib.ListN.{length, getD, set, length-set}
 use lib.Seq.{getD-set-same, getD-set-other}
 use borrow.Author.Tests.{eq-eqb, ne-eqb}
 use Rattle.pktree.specs.Lists.{Every, select}
-use Rattle.store.specs.declared.sizes.Layout.{Layout}
+use Rattle.measures.specs.declared.sizes.Layout.{Layout}
 use Rattle.store.specs.declared.free.FreeSlot.the-variants.{Taken, Missing}
-use Rattle.store.specs.Layout.{LayoutFits}
-use Rattle.store.specs.Slot.{slotPart, nextWord, Within}
+use Rattle.measures.specs.Layout.{LayoutFits}
+use Rattle.measures.specs.Slot.{slotPart, nextWord, Within}
 use Rattle.store.specs.FreeSlots.{noSlot, FreeChain, FreeSlots, occurrences, TookFree, Released}
-use Rattle.store.proofs.SlotWrites.{HeadWritten, head-word-set, slot-word-set, slot-length}
+use Rattle.measures.proofs.SlotWrites.{HeadWritten, head-word-set, slot-word-set, slot-length}
 
 -- what follows for every slot
 pub every-map : (P Q : ℕ → Type 0) (l : List ℕ) → ((s : ℕ) → P s → Q s) → Every P l → Every Q l

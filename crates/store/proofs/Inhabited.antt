@@ -6,7 +6,7 @@ use mathlib.Core.Path.{refl}
 use mathlib.Core.List.{List, [], _∷_, _++_}
 use lib.ListN.{replicate}
 use Rattle.pktree.specs.Elements.{gather}
-use Rattle.store.specs.Slot.{slotPart}
+use Rattle.measures.specs.Slot.{slotPart}
 use Rattle.store.specs.Placed.{Placed, nothing, pixelThen, blockThen}
 use Rattle.store.specs.Reading.{readSlot}
 use Rattle.store.specs.Sound.{Sound, Holds}

@@ -1,13 +1,8 @@
-pub mod Decides
-pub mod Bounds
-pub mod SlotWrites
 pub mod Splices
 pub mod Standing
 pub mod PlacedJoin
 pub mod SoundView
 pub mod BlockView
-pub mod Usable
-pub mod SizesWritten
 pub mod FreeChains
 pub mod AllFree
 pub mod Emptied

@@ -14,8 +14,8 @@ use Rattle.pktree.proofs.Forests.{blockCount}
 use Rattle.pktree.proofs.Arranged.{LocallyRight}
 use Rattle.pktree.proofs.BlockNumber.{blocks-take-pixels}
 use Rattle.pktree.proofs.LocalLaw.{tree-exactly-local}
-use Rattle.store.specs.Sizes.{panelOf, slotCount, slotWidth, sizesOf}
-use Rattle.store.specs.Slot.{slotPart}
+use Rattle.measures.specs.Sizes.{panelOf, slotCount, slotWidth, sizesOf}
+use Rattle.measures.specs.Slot.{slotPart}
 use Rattle.store.specs.Placed.{Placed, nothing, blockThen, forestOf, slotsOf}
 use Rattle.store.specs.Sound.{Sound}
 use Rattle.store.proofs.Standing.{SlotSays, Stands, found, every-left}

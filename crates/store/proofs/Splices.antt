@@ -5,9 +5,9 @@ use mathlib.Core.Path.{_≡_, _∙_}
 use mathlib.Core.List.{List, _++_, append-assoc}
 use lib.ListN.{length, take, drop, set, length-append, length-take, length-drop, length-set, List·getD-append}
 use lib.Seq.{paste, drop-drop, take-add, take-take, take-at, drop-at, take-append-le, length-take-le, set-append-left, getD-set-same}
-use Rattle.store.specs.Slot.{countWord}
+use Rattle.measures.specs.Slot.{countWord}
 use Rattle.store.specs.Splice.{elementsIn, CanSplice, Spliced}
-use Rattle.store.proofs.SlotWrites.{drop-take}
+use Rattle.measures.proofs.SlotWrites.{drop-take}
 
 -- a copy to the front is found there
 take-paste-front : (d a : List ℕ) (n : ℕ) → n ≤ length a → take n (paste d 0 a n) ≡ take n a

@@ -14,7 +14,7 @@ use Rattle.pktree.specs.Lists.{Every}
 use Rattle.pktree.specs.Elements.{Forest, empty, pixel, block, size}
 use Rattle.pktree.proofs.Arranged.{Arranged}
 use Rattle.pktree.proofs.Absurd.{zero-is-not-one}
-use Rattle.store.specs.Slot.{slotPart, levelWord, codeWord, countWord, elementPart}
+use Rattle.measures.specs.Slot.{slotPart, levelWord, codeWord, countWord, elementPart}
 use Rattle.store.specs.Placed.{Placed, nothing, pixelThen, blockThen, forestOf, slotsOf}
 use Rattle.store.specs.Reading.{pixelBefore, blockBefore, readElements, blockIn, readSlot}
 

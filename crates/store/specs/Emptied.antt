@@ -3,10 +3,10 @@ use Prim.Native.Nat.{ℕ, zero, suc, _-_}
 use mathlib.Core.Path.{_≡_}
 use mathlib.Core.List.{List, [], _∷_}
 use lib.ListN.{length, take, drop}
-use Rattle.store.specs.declared.sizes.Layout.{Layout}
-use Rattle.store.specs.Sizes.{sizesOf, storeWords}
-use Rattle.store.specs.Layout.{storeEnd}
-use Rattle.store.specs.Slot.{slotPart}
+use Rattle.measures.specs.declared.sizes.Layout.{Layout}
+use Rattle.measures.specs.Sizes.{sizesOf, storeWords}
+use Rattle.measures.specs.Layout.{storeEnd}
+use Rattle.measures.specs.Slot.{slotPart}
 use Rattle.store.specs.FreeSlots.{FreeSlots}
 use Rattle.store.specs.Sound.{Holds}
 

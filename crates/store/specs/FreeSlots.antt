@@ -5,10 +5,10 @@ use mathlib.Core.List.{List, [], _∷_}
 use lib.Dec.{eqb}
 use lib.ListN.{length, getD, take, drop, set}
 use Rattle.pktree.specs.Lists.{Every, select}
-use Rattle.store.specs.declared.sizes.Layout.{Layout}
+use Rattle.measures.specs.declared.sizes.Layout.{Layout}
 use Rattle.store.specs.declared.free.FreeSlot.{FreeSlot}
 use Rattle.store.specs.declared.free.FreeSlot.the-variants.{Taken, Missing}
-use Rattle.store.specs.Slot.{slotPart, levelWord, nextWord}
+use Rattle.measures.specs.Slot.{slotPart, levelWord, nextWord}
 
 abbrev pub noSlot : ℕ
 noSlot = 0xFFFFFFFF

@@ -1,7 +1,3 @@
-pub mod Decides
-pub mod Sizes
-pub mod Layout
-pub mod Slot
 pub mod Element
 pub mod Splice
 pub mod Opening

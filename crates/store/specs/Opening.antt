@@ -5,7 +5,7 @@ use mathlib.Core.List.{List}
 use lib.ListN.{length}
 use Rattle.store.specs.declared.opening.Opening.{Opening}
 use Rattle.store.specs.declared.opening.Opening.the-variants.{Elements, Damaged}
-use Rattle.store.specs.Slot.{slotPart, levelWord, codeWord, countWord}
+use Rattle.measures.specs.Slot.{slotPart, levelWord, codeWord, countWord}
 
 -- the slot says this level and code, and its elements lie within it
 pub record HeaderSays (part : List ℕ) (level code count : ℕ) : Type 0 where

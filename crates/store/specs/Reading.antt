@@ -6,8 +6,8 @@ use mathlib.Core.Option.{Option, none, some}
 use mathlib.Core.List.{List, [], _∷_}
 use lib.Dec.{eqb}
 use lib.ListN.{getD}
-use Rattle.store.specs.Sizes.{slotWidth}
-use Rattle.store.specs.Slot.{slotPart, levelWord, codeWord, countWord, elementPart}
+use Rattle.measures.specs.Sizes.{slotWidth}
+use Rattle.measures.specs.Slot.{slotPart, levelWord, codeWord, countWord, elementPart}
 use Rattle.store.specs.Placed.{Placed, nothing, pixelThen, blockThen}
 
 -- a pixel before what follows

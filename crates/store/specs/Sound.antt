@@ -7,7 +7,7 @@ use lib.ListN.{length, getD}
 use Rattle.pktree.specs.Lists.{Every}
 use Rattle.pktree.specs.PixelSet.{member}
 use Rattle.pktree.specs.Tree.{tree, pixels}
-use Rattle.store.specs.Sizes.{panelOf, slotCount, slotWidth, sizesOf, UsableStore}
+use Rattle.measures.specs.Sizes.{panelOf, slotCount, slotWidth, sizesOf, UsableStore}
 use Rattle.store.specs.Placed.{Placed, forestOf, slotsOf}
 use Rattle.store.specs.Reading.{treeOf}
 use Rattle.store.specs.FreeSlots.{FreeSlots, occurrences}

@@ -3,7 +3,7 @@ use Prim.Native.Nat.{ℕ, suc, _+_, _-_, _*_, _≤_, _<_}
 use mathlib.Core.Path.{_≡_}
 use mathlib.Core.List.{List, _++_}
 use lib.ListN.{length, getD, take, drop, set}
-use Rattle.store.specs.Slot.{countWord, elementPart}
+use Rattle.measures.specs.Slot.{countWord, elementPart}
 
 -- the code of element i
 abbrev pub codeAt : List ℕ → ℕ → ℕ

@@ -4,7 +4,7 @@ ghost use lib.ListN.{length, drop};
 ghost use lib.Seq.{paste};
 ghost use Rattle.store.specs.Element.{elementAt};
 ghost use Rattle.store.specs.Splice.{PlaceOf, CanSplice, Spliced, withHeader};
-use crate::slots::wide;
+use measures::slots::wide;
 
 // 01: an element is either a pixel with its code or a block with its slot.
 pub enum Element {

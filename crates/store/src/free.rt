@@ -1,9 +1,9 @@
 ghost use Prim.Native.Nat.{_+_, _<_};
-ghost use Rattle.store.specs.Layout.{LayoutFits};
+ghost use Rattle.measures.specs.Layout.{LayoutFits};
 ghost use Rattle.store.specs.FreeSlots.{TookFree, Released};
-use crate::sizes::Layout;
-use crate::slots::offset;
-use crate::slots::wide;
+use measures::sizes::Layout;
+use measures::slots::offset;
+use measures::slots::wide;
 
 pub enum FreeSlot {
     Taken(u32),

@@ -1,7 +1,7 @@
 ghost use Prim.Native.Nat.{_≤_};
 ghost use lib.ListN.{length};
 ghost use Rattle.store.specs.Opening.{Opened};
-use crate::slots::wide;
+use measures::slots::wide;
 
 pub enum Opening {
     Elements(usize),

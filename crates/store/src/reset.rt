@@ -1,13 +1,13 @@
 ghost use Prim.Native.Nat.{_+_, _<_};
 ghost use mathlib.Core.Path.{_≡_};
-ghost use Rattle.store.specs.Sizes.{UsableStore, sizesOf};
-ghost use Rattle.store.specs.Layout.{LayoutFits};
+ghost use Rattle.measures.specs.Sizes.{UsableStore, sizesOf};
+ghost use Rattle.measures.specs.Layout.{LayoutFits};
 ghost use Rattle.store.specs.Emptied.{AllFree, Emptied};
 use crate::elements::write_header;
 use crate::free::release;
-use crate::sizes::Layout;
-use crate::sizes::Sizes;
-use crate::sizes::layout_of;
+use measures::sizes::Layout;
+use measures::sizes::Sizes;
+use measures::sizes::layout_of;
 
 // Every slot but the root's is put into the chain.
 pub fn free_all(store: &mut [u32], layout: Layout)

@@ -14,9 +14,9 @@ use Rattle.pktree.proofs.Counting.{sparse-below}
 use Rattle.pktree.proofs.Arranged.{quarterLevel, Arranged, LocallyRight}
 use Rattle.pktree.proofs.Regroup.{Disturbed}
 use Rattle.pktree.proofs.Edits.{put-in, take-out}
-use Rattle.store.specs.Sizes.{slotWidth, slotCount, sizesOf, UsableStore}
-use Rattle.store.specs.Layout.{layoutOf}
-use Rattle.store.specs.Slot.{slotPart}
+use Rattle.measures.specs.Sizes.{slotWidth, slotCount, sizesOf, UsableStore}
+use Rattle.measures.specs.Layout.{layoutOf}
+use Rattle.measures.specs.Slot.{slotPart}
 use Rattle.store.specs.Placed.{Placed, nothing, pixelThen, blockThen, _⧻_, forestOf, slotsOf}
 use Rattle.store.specs.FreeSlots.{occurrences}
 use Rattle.store.specs.Sound.{Sound}

@@ -15,19 +15,19 @@ use Rattle.pktree.proofs.Pixels.{pixels-of-tree-are-set}
 use Rattle.pktree.proofs.LocalLaw.{tree-exactly-local}
 use Rattle.pktree.proofs.SetChanges.{added-at-place, removed-at-place}
 use Rattle.pktree.proofs.Absurd.{zero-is-not-one}
-use Rattle.store.specs.declared.sizes.Sizes.{Sizes}
-use Rattle.store.specs.Sizes.{panelOf, slotWidth, sizesOf, storeWords, UsableStore}
-use Rattle.store.specs.declared.sizes.Layout.{Layout}
-use Rattle.store.specs.Layout.{layoutOf, LaidOut}
+use Rattle.measures.specs.declared.sizes.Sizes.{Sizes}
+use Rattle.measures.specs.Sizes.{panelOf, slotWidth, sizesOf, storeWords, UsableStore}
+use Rattle.measures.specs.declared.sizes.Layout.{Layout}
+use Rattle.measures.specs.Layout.{layoutOf, LaidOut}
 use Rattle.store.specs.Opening.{CannotOpen}
-use Rattle.store.specs.Slot.{slotPart}
+use Rattle.measures.specs.Slot.{slotPart}
 use Rattle.store.specs.Placed.{Placed, nothing, pixelThen, blockThen, forestOf, slotsOf}
 use Rattle.store.specs.Reading.{readSlot}
 use Rattle.store.specs.Sound.{Holds}
 use Rattle.store.proofs.Standing.{SlotSays, depth-below-level, complete-slot, frame}
-use Rattle.store.proofs.SlotWrites.{take-less, word-in-front, head-word-set}
+use Rattle.measures.proofs.SlotWrites.{take-less, word-in-front, head-word-set}
 use Rattle.store.proofs.FreeChains.{every-of-all, free-kept}
-use Rattle.store.proofs.Usable.{sizes-kept, usable-kept, layout-fits}
+use Rattle.measures.proofs.Usable.{sizes-kept, usable-kept, layout-fits}
 use Rattle.change.proofs.Completed.{Completed}
 use Rattle.descent.specs.declared.Located.{Located}
 use Rattle.descent.specs.Located.{LocatedIn, LocateMeets}

@@ -8,8 +8,8 @@ use lib.Dec.{eqb}
 use lib.ListN.{length, getD, take}
 use borrow.Author.Tests.{eqb-true, eqb-false}
 use Rattle.pktree.specs.Elements.{size}
-use Rattle.store.specs.declared.sizes.Layout.{Layout}
-use Rattle.store.specs.Layout.{LayoutFits}
+use Rattle.measures.specs.declared.sizes.Layout.{Layout}
+use Rattle.measures.specs.Layout.{LayoutFits}
 use Rattle.store.specs.Placed.{nothing, blockThen, forestOf, _⧻_}
 use Rattle.store.proofs.PlacedJoin.{size-placed-join}
 use Rattle.descent.specs.Way.{Frame}

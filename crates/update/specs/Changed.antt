@@ -5,7 +5,7 @@ use mathlib.Core.Bool.{true, false}
 use mathlib.Core.List.{List}
 use lib.ListN.{length, getD, drop}
 use Rattle.pktree.specs.PixelSet.{member, added, removed}
-use Rattle.store.specs.Sizes.{slotWidth, sizesOf, storeWords}
+use Rattle.measures.specs.Sizes.{slotWidth, sizesOf, storeWords}
 use Rattle.store.specs.Opening.{CannotOpen}
 use Rattle.store.specs.Sound.{Holds}
 use Rattle.update.specs.declared.marks.Marking.{Marking}

@@ -5,7 +5,7 @@ use mathlib.Core.Bool.{Bool, true}
 use mathlib.Core.List.{List, [], _∷_}
 use lib.ListN.{length, getD, take}
 use Rattle.pktree.specs.Elements.{size}
-use Rattle.store.specs.Layout.{LayoutFits}
+use Rattle.measures.specs.Layout.{LayoutFits}
 use Rattle.store.specs.Placed.{Placed, forestOf}
 use Rattle.store.proofs.Standing.{elementWords}
 use Rattle.descent.specs.declared.Located.{Located}

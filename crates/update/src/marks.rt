@@ -1,13 +1,13 @@
 ghost use mathlib.Core.Path.{_≡_};
 ghost use Rattle.pktree.specs.Panel.{OnPanel};
-ghost use Rattle.store.specs.Sizes.{UsableStore, panelOf, sizesOf};
+ghost use Rattle.measures.specs.Sizes.{UsableStore, panelOf, sizesOf};
 ghost use Rattle.update.specs.Changed.{MarkAnswer, ClearAnswer};
 use crate::propagate::propagate;
 use descent::locate;
+use measures::sizes::Sizes;
+use measures::sizes::layout_of;
+use measures::slots::wide;
 use step::Change;
-use store::sizes::Sizes;
-use store::sizes::layout_of;
-use store::slots::wide;
 
 pub enum Marking {
     Marked,

@@ -1,10 +1,10 @@
 ghost use Prim.Native.Nat.{_≤_};
 ghost use Rattle.update.specs.Propagate.{AroundIs, CanPropagate, PropagateMeets};
 use descent::Located;
+use measures::slots::wide;
 use step::Change;
 use step::Stepped;
 use step::step;
-use store::slots::wide;
 
 pub enum Around {
     Block(usize, usize),

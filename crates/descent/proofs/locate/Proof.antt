@@ -6,13 +6,13 @@ use mathlib.Core.Bool.{Bool}
 use mathlib.Core.List.{List}
 use borrow.Author.Needs.{needs}
 use borrow.Author.Tests.{not-true, not-false}
-use Rattle.store.specs.Slot.{slotPart}
+use Rattle.measures.specs.Slot.{slotPart}
 use Rattle.store.specs.Opening.{HeaderSays, Opened}
 use Rattle.store.specs.declared.opening.Opening.{Opening}
 use Rattle.descent.specs.declared.Ahead.{Ahead}
 use Rattle.descent.specs.Located.{CanEnter}
 use Rattle.descent.specs.Looked.{Looked, InnerBlock}
-use Rattle.store.proofs.Usable.{slot-long}
+use Rattle.measures.proofs.Usable.{slot-long}
 use Rattle.descent.proofs.Descending.{Descended, at-root, stopped, never-at-pixel, never-closed, few-elements, found-here, never-barred, steps-down}
 use Rattle.descent.proofs.locate.Statement.{statement}
 use Rattle.descent.proofs.locate.Tie as tie

@@ -11,7 +11,7 @@ use lib.ListN.{length}
 use denote.Ref.{now}
 use Rattle.query.specs.declared.count.Counted.{Counted}
 use Rattle.query.specs.declared.count.Counted.the-variants.{Seen}
-use Rattle.store.specs.Slot.{slotPart}
+use Rattle.measures.specs.Slot.{slotPart}
 use Rattle.store.specs.declared.opening.Opening.the-variants.{Elements}
 use Rattle.query.specs.Counting.{SlotOpening}
 use Rattle.query.proofs.OpenedSlot.{part-length}
@@ -25,8 +25,8 @@ use Rattle.listing.proofs.list_pixel.Reads as list-pixel-reads
 use Rattle.query.proofs.opened.open_slot.Reads as open-slot-reads
 use Rattle.query.proofs.window.meets.Reads as meets-reads
 use Rattle.store.proofs.elements.element_at.Reads as element-at-reads
-use Rattle.store.proofs.slots.slot_part.Reads as slot-part-reads
-use Rattle.store.proofs.slots.wide.Reads as wide-reads
+use Rattle.measures.proofs.slots.slot_part.Reads as slot-part-reads
+use Rattle.measures.proofs.slots.wide.Reads as wide-reads
 use Rattle.listing.proofs.+list_block.{statement}
 use Rattle.listing.proofs.+list_block.Tie.{close}
 

@@ -10,7 +10,7 @@ use Rattle.pktree.specs.Window as tree
 use Rattle.pktree.specs.Window.{found, openedByWindow}
 use Rattle.pktree.proofs.Absurd.{zero-is-not-one}
 use Rattle.store.specs.Placed.{Placed, forestOf}
-use Rattle.store.specs.Sizes.{panelOf, sizesOf}
+use Rattle.measures.specs.Sizes.{panelOf, sizesOf}
 use Rattle.store.specs.Sound.{Holds}
 use Rattle.query.specs.declared.count.Counted.{Counted}
 use Rattle.query.specs.declared.count.Counted.the-variants.{Seen, Damaged}

@@ -1,7 +1,7 @@
 -- `pkreg::pk_words` meets its contract: the limits are judged on the smallest panel, and the formula is store's.
 use borrow.Author.Needs.{needs}
 use borrow.Author.Tests.{not-true, not-false}
-use Rattle.store.proofs.Decides.{decided-true, decided-false}
+use Rattle.measures.proofs.Decides.{decided-true, decided-false}
 use Rattle.pkreg.proofs.Needed.{needed-within, none-beyond}
 use Rattle.pkreg.proofs.pk_words.Statement.{statement}
 use Rattle.pkreg.proofs.pk_words.Tie as tie

@@ -1,6 +1,6 @@
 -- `register::check` meets its contract: refusal 3 is judged first, then `is_sound` decides.
 use borrow.Author.Needs.{needs}
-use Rattle.store.proofs.Decides.{decided-true, decided-false}
+use Rattle.measures.proofs.Decides.{decided-true, decided-false}
 use Rattle.register.proofs.Checks.{check-refused, check-sound, check-unsound}
 use Rattle.register.proofs.check.Statement.{statement}
 use Rattle.register.proofs.check.Tie as tie

@@ -3,7 +3,7 @@ use native.Mathlib.Omega.{arith}
 use mathlib.Core.Path.{sym}
 use borrow.Author.Needs.{needs}
 use borrow.Author.Tests.{not-true, not-false}
-use Rattle.store.proofs.Decides.{decided-true, decided-false}
+use Rattle.measures.proofs.Decides.{decided-true, decided-false}
 use Rattle.register.proofs.Makes.{refused-limits, refused-short, made-empty}
 use Rattle.register.proofs.make.Statement.{statement}
 use Rattle.register.proofs.make.Tie as tie

@@ -2,8 +2,8 @@
 use native.Mathlib.Omega.{arith}
 use mathlib.Core.Path.{_≡_}
 use borrow.Author.Needs.{needs}
-use Rattle.store.specs.Slot.{slotPart, countWord}
-use Rattle.store.proofs.Usable.{slot-long}
+use Rattle.measures.specs.Slot.{slotPart, countWord}
+use Rattle.measures.proofs.Usable.{slot-long}
 use Rattle.rewrite.proofs.Runs.{whole-within, run-copied, whole-run}
 use Rattle.rewrite.proofs.hand_up_all.Statement.{statement}
 use Rattle.rewrite.proofs.hand_up_all.Tie as tie

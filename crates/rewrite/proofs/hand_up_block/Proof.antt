@@ -4,7 +4,7 @@ use Prim.Native.Nat.{ℕ}
 use mathlib.Core.Path.{refl}
 use mathlib.Core.List.{List}
 use borrow.Author.Needs.{needs}
-use Rattle.store.specs.Slot.{slotPart}
+use Rattle.measures.specs.Slot.{slotPart}
 use Rattle.rewrite.proofs.Runs.{run-within}
 use Rattle.rewrite.proofs.Moves.{moved-now, only-twice}
 use Rattle.rewrite.proofs.hand_up_block.Statement.{statement}

@@ -1,7 +1,7 @@
 -- `rewrite::head_slot` meets its contract: the part that is lent and comes back with its header is the slot.
 use borrow.Author.Needs.{needs}
-use Rattle.store.proofs.SlotWrites.{lent-part, slot-given-back}
-use Rattle.store.proofs.Usable.{slot-within}
+use Rattle.measures.proofs.SlotWrites.{lent-part, slot-given-back}
+use Rattle.measures.proofs.Usable.{slot-within}
 use Rattle.rewrite.proofs.head_slot.Statement.{statement}
 use Rattle.rewrite.proofs.head_slot.Tie as tie
 

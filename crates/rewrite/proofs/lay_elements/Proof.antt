@@ -1,7 +1,7 @@
 -- `rewrite::lay_elements` meets its contract: the part that is lent and comes back with the elements is the slot.
 use borrow.Author.Needs.{needs}
-use Rattle.store.proofs.SlotWrites.{lent-part, slot-given-back}
-use Rattle.store.proofs.Usable.{slot-within}
+use Rattle.measures.proofs.SlotWrites.{lent-part, slot-given-back}
+use Rattle.measures.proofs.Usable.{slot-within}
 use Rattle.rewrite.proofs.lay_elements.Statement.{statement}
 use Rattle.rewrite.proofs.lay_elements.Tie as tie
 

@@ -24,8 +24,8 @@ use Rattle.saving.proofs.put_entry.Reads as put-entry-reads
 use Rattle.saving.proofs.save_pixel.Reads as save-pixel-reads
 use Rattle.store.proofs.elements.element_at.Reads as element-at-reads
 use Rattle.store.proofs.opening.open_part.Reads as open-part-reads
-use Rattle.store.proofs.slots.slot_part.Reads as slot-part-reads
-use Rattle.store.proofs.slots.wide.Reads as wide-reads
+use Rattle.measures.proofs.slots.slot_part.Reads as slot-part-reads
+use Rattle.measures.proofs.slots.wide.Reads as wide-reads
 use Rattle.saving.proofs.+save_block+save_child.{statement}
 use Rattle.saving.proofs.+save_block+save_child.Tie.{close}
 

@@ -1,7 +1,7 @@
 -- `saving::save` meets its contract: the numbers of pixels and blocks give that of the entries, and the walk from the root writes them all.
 use borrow.Author.Needs.{needs}
 use native.Mathlib.Omega.{arith}
-use Rattle.store.proofs.Bounds.{slot-count-bounded}
+use Rattle.measures.proofs.Bounds.{slot-count-bounded}
 use Rattle.saving.proofs.EntryWrites.{length-headed}
 use Rattle.query.proofs.RootLook.{sizes-valid}
 use Rattle.saving.proofs.SaveAnswers.{can-save, no-numbers, too-short, no-walk, too-few, all-written}

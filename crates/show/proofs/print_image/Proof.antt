@@ -6,8 +6,8 @@ use mathlib.Core.Bool.{Bool, false, not}
 use mathlib.Core.List.{List}
 use borrow.Author.Needs.{needs}
 use borrow.Author.Tests.{not-false}
-use Rattle.store.specs.Decides.{Decides}
-use Rattle.store.proofs.Decides.{decided-true}
+use Rattle.measures.specs.Decides.{Decides}
+use Rattle.measures.proofs.Decides.{decided-true}
 use Rattle.image.specs.Judged.{WellFormed}
 use Rattle.show.proofs.print_image.Statement.{statement}
 use Rattle.show.proofs.print_image.Tie as tie

@@ -2,10 +2,10 @@
 use native.Mathlib.Omega.{arith}
 use borrow.Author.Needs.{needs}
 use denote.Ref.{now}
-use Rattle.store.specs.Sizes.{sizesOf}
-use Rattle.store.specs.Layout.{layoutOf}
-use Rattle.store.specs.declared.sizes.Layout.{Layout}
-use Rattle.store.specs.declared.sizes.Sizes.{Sizes}
+use Rattle.measures.specs.Sizes.{sizesOf}
+use Rattle.measures.specs.Layout.{layoutOf}
+use Rattle.measures.specs.declared.sizes.Layout.{Layout}
+use Rattle.measures.specs.declared.sizes.Sizes.{Sizes}
 use Rattle.soundness.specs.declared.chain.Chain.the-variants.{Broken}
 use Rattle.soundness.specs.Chain.{ChainMeets, ChainEnds}
 use Rattle.soundness.specs.Walk.{NoneClaimed, BlockWalked}

@@ -5,8 +5,8 @@ use mathlib.Core.Logic.{⊎-elim, inl, inr}
 use borrow.Author.Needs.{needs}
 use borrow.Author.Tests.{not-true, not-false}
 use Rattle.pktree.proofs.Alignment.{blockCode}
-use Rattle.store.specs.declared.sizes.Layout.{Layout}
-use Rattle.store.specs.Slot.{slotPart, countWord}
+use Rattle.measures.specs.declared.sizes.Layout.{Layout}
+use Rattle.measures.specs.Slot.{slotPart, countWord}
 use Rattle.step.proofs.PutLaws.{count-at}
 use Rattle.step.proofs.RegroupEnds.{kept-same, kept-but-slot, front-kept, regrouped-up, regrouped-done, never-without}
 use Rattle.step.proofs.regroup.Statement.{statement}

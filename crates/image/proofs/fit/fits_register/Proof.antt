@@ -1,6 +1,6 @@
 -- `image::fit::fits_register` meets its contract: the first test that fails tells which part of the condition does. Assumes nothing.
 use native.Mathlib.Omega.{arith}
-use Rattle.store.proofs.Decides.{leb-decides}
+use Rattle.measures.proofs.Decides.{leb-decides}
 use borrow.Author.Needs.{needs}
 use Rattle.image.proofs.fit.fits_register.Statement.{statement}
 use Rattle.image.proofs.fit.fits_register.Tie as tie

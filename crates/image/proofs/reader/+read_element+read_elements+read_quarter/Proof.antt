@@ -9,7 +9,7 @@ use mathlib.Core.Path.{_≡_, subst, sym}
 use mathlib.Core.List.{List}
 use denote.Ref.{now}
 use Rattle.pktree.proofs.Alignment.{pow-pos}
-use Rattle.store.proofs.Decides.{decided-true, decided-false}
+use Rattle.measures.proofs.Decides.{decided-true, decided-false}
 use Rattle.image.specs.declared.reader.ElementsRead.{ElementsRead}
 use Rattle.image.specs.Reading.{EntryIs, EntryInside, FitsQuarter, ElementsMeet}
 use Rattle.image.proofs.BlockSize.{size-of-quarters}
@@ -32,7 +32,7 @@ use Rattle.image.proofs.parts.code_at.Reads as code-at-reads
 use Rattle.image.proofs.reader.block_size.Reads as block-size-reads
 use Rattle.image.proofs.reader.fits_quarter.Reads as fits-quarter-reads
 use Rattle.image.proofs.reader.is_inside.Reads as is-inside-reads
-use Rattle.store.proofs.slots.wide.Reads as wide-reads
+use Rattle.measures.proofs.slots.wide.Reads as wide-reads
 use Rattle.image.proofs.reader.+read_element+read_elements+read_quarter.{statement}
 use Rattle.image.proofs.reader.+read_element+read_elements+read_quarter.Tie.{close}
 

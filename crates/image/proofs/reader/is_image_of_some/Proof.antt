@@ -2,7 +2,7 @@
 use native.Mathlib.Omega.{arith}
 use borrow.Author.Tests.{not-true, not-false}
 use Rattle.pktree.proofs.Alignment.{aligned-root}
-use Rattle.store.proofs.Decides.{decided-true, decided-false}
+use Rattle.measures.proofs.Decides.{decided-true, decided-false}
 use Rattle.image.proofs.Comparisons.{eqb-decides}
 use Rattle.image.proofs.BlockSize.{panel-size}
 use Rattle.image.specs.Reading.{EntryIs}

@@ -1,5 +1,5 @@
 use borrow.Author.Tests.{not-false}
-use Rattle.store.proofs.Decides.{decided-true}
+use Rattle.measures.proofs.Decides.{decided-true}
 use borrow.Author.Needs.{needs}
 use Rattle.panels.proofs.entries.print_image.Statement.{statement}
 use Rattle.panels.proofs.entries.print_image.Tie as tie

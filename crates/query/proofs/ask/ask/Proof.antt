@@ -1,8 +1,8 @@
 -- `query::ask::ask` meets its contract: what `locate` ensures is the answer.
 use native.Mathlib.Omega.{arith}
 use mathlib.Core.Path.{refl, subst, sym}
-use Rattle.store.specs.Sizes.{ValidSizes}
-use Rattle.store.proofs.Usable.{layout-fits}
+use Rattle.measures.specs.Sizes.{ValidSizes}
+use Rattle.measures.proofs.Usable.{layout-fits}
 use Rattle.query.proofs.Asks.{asked-known, asked-damaged}
 use Rattle.query.proofs.ask.ask.Statement.{statement}
 use Rattle.query.proofs.ask.ask.Tie as tie

@@ -5,8 +5,8 @@ use borrow.Author.Needs.{needs}
 use mathlib.Core.Path.{_≡_, subst}
 use mathlib.Core.List.{List}
 use Rattle.store.specs.Opening.{Opened}
-use Rattle.store.specs.Slot.{slotPart}
-use Rattle.store.specs.declared.sizes.Layout.{Layout}
+use Rattle.measures.specs.Slot.{slotPart}
+use Rattle.measures.specs.declared.sizes.Layout.{Layout}
 use Rattle.store.specs.declared.opening.Opening.{Opening}
 use Rattle.store.specs.declared.opening.Opening.the-variants.{Elements, Damaged}
 use Rattle.query.specs.Counting.{SlotOpening}

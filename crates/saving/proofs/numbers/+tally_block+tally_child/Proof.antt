@@ -20,8 +20,8 @@ use Rattle.saving.proofs.numbers.tally_child.Kinds as tally-child-kinds
 use Rattle.saving.proofs.numbers.+tally_block+tally_child.Lts-tally_child as tally-child-lts
 use Rattle.store.proofs.elements.element_at.Reads as element-at-reads
 use Rattle.store.proofs.opening.open_part.Reads as open-part-reads
-use Rattle.store.proofs.slots.slot_part.Reads as slot-part-reads
-use Rattle.store.proofs.slots.wide.Reads as wide-reads
+use Rattle.measures.proofs.slots.slot_part.Reads as slot-part-reads
+use Rattle.measures.proofs.slots.wide.Reads as wide-reads
 use Rattle.saving.proofs.numbers.+tally_block+tally_child.{statement}
 use Rattle.saving.proofs.numbers.+tally_block+tally_child.Tie.{close}
 

@@ -4,8 +4,8 @@ use native.Mathlib.Omega.{arith}
 use borrow.Author.Needs.{needs}
 use mathlib.Core.Path.{_≡_, refl, sym, _∙_}
 use lib.ListN.{getD}
-use Rattle.store.specs.Slot.{slotPart}
-use Rattle.store.proofs.SlotWrites.{slot-word}
+use Rattle.measures.specs.Slot.{slotPart}
+use Rattle.measures.proofs.SlotWrites.{slot-word}
 use Rattle.soundness.proofs.ChainFollowed.{FollowedTo, followed-none, followed-one, no-end, next-free, chain-ends}
 use Rattle.soundness.proofs.chain.count_free.Statement.{statement}
 use Rattle.soundness.proofs.chain.count_free.Tie as tie

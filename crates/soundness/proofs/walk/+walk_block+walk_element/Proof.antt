@@ -25,8 +25,8 @@ use Rattle.soundness.proofs.pass.pass_element.Reads as pass-element-rea
 use Rattle.soundness.proofs.walk.open_block.Reads as open-block-reads
 use Rattle.soundness.proofs.walk.see_pixel.Reads as see-pixel-reads
 use Rattle.store.proofs.elements.element_at.Reads as element-at-reads
-use Rattle.store.proofs.slots.slot_part.Reads as slot-part-reads
-use Rattle.store.proofs.slots.wide.Reads as wide-reads
+use Rattle.measures.proofs.slots.slot_part.Reads as slot-part-reads
+use Rattle.measures.proofs.slots.wide.Reads as wide-reads
 use Rattle.soundness.proofs.walk.+walk_block+walk_element.{statement}
 use Rattle.soundness.proofs.walk.+walk_block+walk_element.Tie.{close}
 

@@ -4,8 +4,8 @@ use native.Mathlib.Omega.{arith}
 use mathlib.Core.Path.{_≡_, refl, sym, _∙_}
 use lib.ListN.{getD}
 use borrow.Author.Needs.{needs}
-use Rattle.store.specs.Slot.{slotPart}
-use Rattle.store.proofs.SlotWrites.{slot-word}
+use Rattle.measures.specs.Slot.{slotPart}
+use Rattle.measures.proofs.SlotWrites.{slot-word}
 use Rattle.store.proofs.free.take_free.Statement.{statement}
 use Rattle.store.proofs.free.take_free.Tie as tie
 

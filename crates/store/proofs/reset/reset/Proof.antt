@@ -1,9 +1,9 @@
 -- `store::reset::reset` meets its contract: with all other slots free, a root of no elements and no pixels counted, the store holds none.
 use native.Mathlib.Omega.{arith}
 use borrow.Author.Needs.{needs}
-use Rattle.store.specs.Slot.{Within}
-use Rattle.store.proofs.SlotWrites.{lent-part, slot-given-back}
-use Rattle.store.proofs.Usable.{layout-fits, slot-within}
+use Rattle.measures.specs.Slot.{Within}
+use Rattle.measures.proofs.SlotWrites.{lent-part, slot-given-back}
+use Rattle.measures.proofs.Usable.{layout-fits, slot-within}
 use Rattle.store.proofs.Emptied.{store-emptied}
 use Rattle.store.proofs.reset.reset.Statement.{statement}
 use Rattle.store.proofs.reset.reset.Tie as tie

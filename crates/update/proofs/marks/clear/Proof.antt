@@ -5,7 +5,7 @@ use mathlib.Core.Path.{refl}
 use lib.ListN.{length}
 use borrow.Author.Needs.{needs}
 use borrow.Author.Tests.{not-true, not-false}
-use Rattle.store.proofs.Usable.{layout-fits}
+use Rattle.measures.proofs.Usable.{layout-fits}
 use Rattle.step.proofs.RegroupEnds.{kept-same}
 use Rattle.update.proofs.ChangeEnds.{LookedUp, never-damaged, never-uncounted, clear-damaged, clear-unmarked, can-propagate, clear-never-fails, clear-completed}
 use Rattle.update.proofs.marks.clear.Statement.{statement}

@@ -5,7 +5,7 @@ use mathlib.Core.Path.{refl}
 use lib.ListN.{length}
 use borrow.Author.Needs.{needs}
 use borrow.Author.Tests.{not-true, not-false}
-use Rattle.store.proofs.Usable.{layout-fits}
+use Rattle.measures.proofs.Usable.{layout-fits}
 use Rattle.step.proofs.RegroupEnds.{kept-same}
 use Rattle.update.proofs.ChangeEnds.{LookedUp, never-damaged, mark-damaged, mark-already, mark-full, can-propagate, mark-never-fails, mark-completed}
 use Rattle.update.proofs.marks.mark.Statement.{statement}

@@ -4,7 +4,7 @@ use mathlib.Core.Path.{_≡_, refl, subst}
 use mathlib.Core.Bool.{Bool, true, false}
 use lib.Dec.{leb}
 use borrow.Author.Tests.{leb-true, leb-false}
-use Rattle.store.specs.Decides.{Decides}
+use Rattle.measures.specs.Decides.{Decides}
 
 -- a comparison decides what holds on its one side and fails on its other
 pub leb-decides : (a b : ℕ) (P : Type 0) → (a ≤ b → P) → (b < a → P → ⊥) → Decides (leb a b) P

@@ -2,9 +2,9 @@
 use borrow.Author.Needs.{needs}
 use native.Mathlib.Omega.{arith}
 use lib.ListN.{length-set}
-use Rattle.store.proofs.SizesWritten.{sizes-written}
-use Rattle.store.proofs.sizes.write_sizes.Statement.{statement}
-use Rattle.store.proofs.sizes.write_sizes.Tie as tie
+use Rattle.measures.proofs.SizesWritten.{sizes-written}
+use Rattle.measures.proofs.sizes.write_sizes.Statement.{statement}
+use Rattle.measures.proofs.sizes.write_sizes.Tie as tie
 
 returns : tie.Need-returns
 returns c = sizes-written (c .args .sizes) (c .args .store .now) (c .pre .0) (c .pre .1)

@@ -4,9 +4,9 @@ use mathlib.Core.Path.{_≡_}
 use mathlib.Core.List.{List}
 use lib.ListN.{length, getD, drop}
 use Rattle.pktree.specs.Panel.{Panel, Valid}
-use Rattle.store.specs.declared.sizes.Sizes.{Sizes}
-use Rattle.store.specs.declared.sizes.SizesRead.{SizesRead}
-use Rattle.store.specs.declared.sizes.SizesRead.the-variants.{Usable, Unusable}
+use Rattle.measures.specs.declared.sizes.Sizes.{Sizes}
+use Rattle.measures.specs.declared.sizes.SizesRead.{SizesRead}
+use Rattle.measures.specs.declared.sizes.SizesRead.the-variants.{Usable, Unusable}
 
 abbrev pub panelOf : Sizes → Panel
 panelOf sizes = record { order = sizes .order; k = sizes .k }

@@ -1,9 +1,9 @@
 -- `store::sizes::store_end` meets its contract: the slots' words are few enough for a `usize`.
 use native.Mathlib.Omega.{arith}
 use mathlib.Core.Path.{refl}
-use Rattle.store.proofs.Bounds.{words-bounded}
-use Rattle.store.proofs.sizes.store_end.Statement.{statement}
-use Rattle.store.proofs.sizes.store_end.Tie as tie
+use Rattle.measures.proofs.Bounds.{words-bounded}
+use Rattle.measures.proofs.sizes.store_end.Statement.{statement}
+use Rattle.measures.proofs.sizes.store_end.Tie as tie
 
 mul-result : tie.Need-mul-result
 mul-result c = omega (arith, words-bounded (c .before .pre))

@@ -2,10 +2,10 @@
 use Prim.Native.Nat.{ℕ, _+_, _-_, _*_, _≤_, _<_}
 use native.Mathlib.Omega.{arith}
 use native.Mathlib.Nat.{suc-mul, mul-le-mul, mul-le-mul-right, div-le-self}
-use Rattle.store.specs.declared.sizes.Sizes.{Sizes}
-use Rattle.store.specs.declared.sizes.Layout.{Layout}
-use Rattle.store.specs.Sizes.{ValidSizes, slotCount, largestMost}
-use Rattle.store.specs.Layout.{LayoutWithin}
+use Rattle.measures.specs.declared.sizes.Sizes.{Sizes}
+use Rattle.measures.specs.declared.sizes.Layout.{Layout}
+use Rattle.measures.specs.Sizes.{ValidSizes, slotCount, largestMost}
+use Rattle.measures.specs.Layout.{LayoutWithin}
 
 -- a slot ends where the next one begins, and the last where the slots end
 pub slot-ends : (slot slots width : ℕ) → slot < slots → slot * width + width ≤ slots * width

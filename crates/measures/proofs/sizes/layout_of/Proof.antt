@@ -2,9 +2,9 @@
 use native.Mathlib.Omega.{arith}
 use mathlib.Core.Path.{refl}
 use borrow.Author.Needs.{needs}
-use Rattle.store.proofs.Bounds.{slot-count-bounded}
-use Rattle.store.proofs.sizes.layout_of.Statement.{statement}
-use Rattle.store.proofs.sizes.layout_of.Tie as tie
+use Rattle.measures.proofs.Bounds.{slot-count-bounded}
+use Rattle.measures.proofs.sizes.layout_of.Statement.{statement}
+use Rattle.measures.proofs.sizes.layout_of.Tie as tie
 
 add-t10 : tie.Need-add-t10
 add-t10 c = omega (arith, slot-count-bounded (c .before .before .pre))

@@ -1,9 +1,9 @@
 ghost use Prim.Native.Nat.{_+_, _*_, _≤_, _<_};
 ghost use mathlib.Core.Path.{_≡_};
 ghost use lib.ListN.{length};
-ghost use Rattle.store.specs.Decides.{Decides};
-ghost use Rattle.store.specs.Sizes.{ValidSizes, storeWords, ReadSizes, WroteSizes};
-ghost use Rattle.store.specs.Layout.{LaidOut, LayoutWithin, storeEnd};
+ghost use Rattle.measures.specs.Decides.{Decides};
+ghost use Rattle.measures.specs.Sizes.{ValidSizes, storeWords, ReadSizes, WroteSizes};
+ghost use Rattle.measures.specs.Layout.{LaidOut, LayoutWithin, storeEnd};
 
 // 01: the largest N, in this one place.
 const LARGEST_MOST: u32 = 65535;

@@ -2,9 +2,9 @@
 use native.Mathlib.Omega.{arith}
 use mathlib.Core.Path.{refl}
 use Prim.Native.Nat.{_+_, _*_, _≤_}
-use Rattle.store.proofs.Bounds.{slot-ends, words-bounded}
-use Rattle.store.proofs.slots.offset.Statement.{statement}
-use Rattle.store.proofs.slots.offset.Tie as tie
+use Rattle.measures.proofs.Bounds.{slot-ends, words-bounded}
+use Rattle.measures.proofs.slots.offset.Statement.{statement}
+use Rattle.measures.proofs.slots.offset.Tie as tie
 
 -- the slot ends before the slots do
 ends : (c : tie.Start) → c .args .slot * c .args .layout .width + c .args .layout .width ≤ c .args .layout .slots * c .args .layout .width

@@ -8,8 +8,8 @@ use mathlib.Core.List.{List, [], _∷_}
 use lib.ListN.{length, getD, take, drop, set, length-drop, length-set}
 use lib.Seq.{take-nil, take-take, drop-drop, length-take-le, take-at, drop-at, getD-take, getD-drop, take-set-le, take-set-lt, drop-set-lt, drop-set-add}
 use borrow.Rule.Slice.PartMut.{putMid, same-len-mid, take-put, drop-put}
-use Rattle.store.specs.Slot.{slotPart, Within, OnlySlot}
-use Rattle.store.proofs.Bounds.{slot-ends}
+use Rattle.measures.specs.Slot.{slotPart, Within, OnlySlot}
+use Rattle.measures.proofs.Bounds.{slot-ends}
 
 -- lists that agree on a front agree on a shorter one
 pub take-less : (m n : ℕ) (before after : List ℕ) → m ≤ n → take n after ≡ take n before → take m after ≡ take m before

@@ -3,9 +3,9 @@ use Prim.Native.Nat.{_+_, _-_}
 use native.Mathlib.Omega.{arith}
 use mathlib.Core.Path.{_≡_}
 use borrow.Author.Needs.{needs}
-use Rattle.store.specs.Slot.{slotPart}
-use Rattle.store.proofs.slots.slot_part.Statement.{statement}
-use Rattle.store.proofs.slots.slot_part.Tie as tie
+use Rattle.measures.specs.Slot.{slotPart}
+use Rattle.measures.proofs.slots.slot_part.Statement.{statement}
+use Rattle.measures.proofs.slots.slot_part.Tie as tie
 
 returns : tie.Need-returns
 unfolding slotPart

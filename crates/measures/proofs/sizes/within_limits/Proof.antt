@@ -1,10 +1,10 @@
 -- `store::sizes::within_limits` meets its contract: each limit is tested, and the last test decides.
 use native.Mathlib.Omega.{arith}
 use borrow.Author.Needs.{needs}
-use Rattle.store.specs.Sizes.{ValidSizes, largestMost}
-use Rattle.store.proofs.Decides.{leb-decides}
-use Rattle.store.proofs.sizes.within_limits.Statement.{statement}
-use Rattle.store.proofs.sizes.within_limits.Tie as tie
+use Rattle.measures.specs.Sizes.{ValidSizes, largestMost}
+use Rattle.measures.proofs.Decides.{leb-decides}
+use Rattle.measures.proofs.sizes.within_limits.Statement.{statement}
+use Rattle.measures.proofs.sizes.within_limits.Tie as tie
 
 returns-6 : tie.Need-returns-6
 returns-6 c =

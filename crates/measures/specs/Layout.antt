@@ -3,9 +3,9 @@ use Prim.Native.Nat.{ℕ, _+_, _*_, _≤_}
 use mathlib.Core.Path.{_≡_}
 use mathlib.Core.List.{List}
 use lib.ListN.{length}
-use Rattle.store.specs.declared.sizes.Sizes.{Sizes}
-use Rattle.store.specs.declared.sizes.Layout.{Layout}
-use Rattle.store.specs.Sizes.{slotCount, slotWidth}
+use Rattle.measures.specs.declared.sizes.Sizes.{Sizes}
+use Rattle.measures.specs.declared.sizes.Layout.{Layout}
+use Rattle.measures.specs.Sizes.{slotCount, slotWidth}
 
 abbrev pub layoutOf : Sizes → Layout
 layoutOf sizes = record { width = slotWidth (sizes .k); slots = slotCount (sizes .k) (sizes .most) }

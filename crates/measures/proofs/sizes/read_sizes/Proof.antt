@@ -3,9 +3,9 @@ use native.Mathlib.Omega.{arith}
 use mathlib.Core.Path.{refl}
 use borrow.Author.Needs.{needs}
 use borrow.Author.Tests.{not-true, not-false}
-use Rattle.store.proofs.Decides.{decided-true, decided-false}
-use Rattle.store.proofs.sizes.read_sizes.Statement.{statement}
-use Rattle.store.proofs.sizes.read_sizes.Tie as tie
+use Rattle.measures.proofs.Decides.{decided-true, decided-false}
+use Rattle.measures.proofs.sizes.read_sizes.Statement.{statement}
+use Rattle.measures.proofs.sizes.read_sizes.Tie as tie
 
 returns-3 : tie.Need-returns-3
 returns-3 c = λ u. let w = c .before .within-limits in decided-false (not-true (w .result) (c .if3 .taken)) (w .ensures) (u .valid)

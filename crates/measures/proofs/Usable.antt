@@ -4,13 +4,13 @@ use native.Mathlib.Omega.{arith}
 use mathlib.Core.Path.{_≡_, ap, sym, _∙_, subst}
 use mathlib.Core.List.{List}
 use lib.ListN.{length, take}
-use Rattle.store.specs.declared.sizes.Sizes.{Sizes}
-use Rattle.store.specs.declared.sizes.Layout.{Layout}
-use Rattle.store.specs.Sizes.{sizesOf, storeWords, UsableStore}
-use Rattle.store.specs.Layout.{layoutOf, storeEnd, LaidOut, LayoutFits}
-use Rattle.store.specs.Slot.{slotPart, Within}
-use Rattle.store.proofs.Bounds.{slot-ends}
-use Rattle.store.proofs.SlotWrites.{word-in-front, slot-length}
+use Rattle.measures.specs.declared.sizes.Sizes.{Sizes}
+use Rattle.measures.specs.declared.sizes.Layout.{Layout}
+use Rattle.measures.specs.Sizes.{sizesOf, storeWords, UsableStore}
+use Rattle.measures.specs.Layout.{layoutOf, storeEnd, LaidOut, LayoutFits}
+use Rattle.measures.specs.Slot.{slotPart, Within}
+use Rattle.measures.proofs.Bounds.{slot-ends}
+use Rattle.measures.proofs.SlotWrites.{word-in-front, slot-length}
 
 -- the sizes are words 1 to 3
 pub sizes-kept : (before after : List ℕ) → take 4 after ≡ take 4 before → sizesOf after ≡ sizesOf before

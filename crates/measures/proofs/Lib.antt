@@ -1,0 +1,5 @@
+pub mod Decides
+pub mod Bounds
+pub mod SlotWrites
+pub mod Usable
+pub mod SizesWritten

@@ -1,0 +1,4 @@
+pub mod Decides
+pub mod Sizes
+pub mod Layout
+pub mod Slot
