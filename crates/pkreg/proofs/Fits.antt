@@ -26,7 +26,7 @@ module _ (words : List ℕ) where
   opened-fits x y r meets =
       fits (askAnswer r .second) (2 ^ 32) (omega arith)
       (λ u. omega (arith, meets .bounded u, u .valid .panel .order-to))
-      (λ fails. meets .zeros (let e = meets .unusable .1 fails in λ z. absurd (omega (arith, e, z))) .1)
+      (λ fails. meets .zeros (let e = meets .refusals .unusable .1 fails in λ z. absurd (omega (arith, e, z))) .1)
 
   pub length-fits : (before after : List ℕ) (r : Saving) → SaveMeets words before after r → saveAnswer r .first < 2 ^ 32
   length-fits before after r meets =
