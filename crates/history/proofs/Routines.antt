@@ -1,11 +1,15 @@
 -- What ties a step to the compiled function: at every model, a call of the routine of a public call gives its caller just `Learnt`, of which
 -- the steps are made.
+use Prim.Native.Nat.{ℕ}
 use mathlib.Core.Path.{_≡_}
+use mathlib.Core.List.{List}
 use borrow.Fn.World.{World}
+use borrow.Fn.Kind.{PK, RK}
+use borrow.Fn.Kinds.{In, Out}
 use borrow.Fn.Plain.{Known}
 use borrow.Fn.Run.{Over}
 use contract.Running.{givenOf}
-use prog.Routine.{Env, Name}
+use prog.Routine.{Env, Name, Routine}
 use Rattle.register.proofs.make.Reads as make-reads
 use Rattle.register.proofs.make.Kinds as make-kinds
 use Rattle.register.proofs.make.Symbol as make-symbol
@@ -43,47 +47,34 @@ use Rattle.register.proofs.check.Kinds as check-kinds
 use Rattle.register.proofs.check.Symbol as check-symbol
 use Rattle.register.proofs.check.Met as check-theorem
 
-pub make-gives : (w : World) (γ : Env) (name : Name) → γ name ≡ make-symbol.routine
-    → Known (w .𝓤) (w .H) (w .𝓖 .A) (givenOf (w .𝓤) (w .H) (w .𝓜) (w .𝓖)) (Over (w .𝓤) (w .H) (w .𝓜) (w .𝓖) (w .𝓡) γ) 1
-    make-kinds.ps make-kinds.r make-reads.Asked make-reads.Learnt name
+-- whoever calls this routine, with so many lifetimes, asks and learns just this
+abbrev pub Gives : (lifetimes : ℕ) (parameters : List (PK lifetimes)) (result : RK lifetimes) → In lifetimes parameters → Out lifetimes parameters result → Routine → Type 2
+Gives lifetimes parameters result asked learnt routine = (w : World) (γ : Env) (name : Name) → γ name ≡ routine
+    → Known (w .𝓤) (w .H) (w .𝓖 .A) (givenOf (w .𝓤) (w .H) (w .𝓜) (w .𝓖)) (Over (w .𝓤) (w .H) (w .𝓜) (w .𝓖) (w .𝓡) γ) lifetimes parameters result asked learnt name
+
+pub make-gives : Gives 1 make-kinds.ps make-kinds.r make-reads.Asked make-reads.Learnt make-symbol.routine
 make-gives w γ name e = make-reads.known w γ name make-symbol.routine e (make-theorem.met (w .𝓤) (w .H) (w .𝓜) (w .𝓖) (w .𝓡))
 
-pub mark-gives : (w : World) (γ : Env) (name : Name) → γ name ≡ mark-symbol.routine
-    → Known (w .𝓤) (w .H) (w .𝓖 .A) (givenOf (w .𝓤) (w .H) (w .𝓜) (w .𝓖)) (Over (w .𝓤) (w .H) (w .𝓜) (w .𝓖) (w .𝓡) γ) 1
-    mark-kinds.ps mark-kinds.r mark-reads.Asked mark-reads.Learnt name
+pub mark-gives : Gives 1 mark-kinds.ps mark-kinds.r mark-reads.Asked mark-reads.Learnt mark-symbol.routine
 mark-gives w γ name e = mark-reads.known w γ name mark-symbol.routine e (mark-theorem.met (w .𝓤) (w .H) (w .𝓜) (w .𝓖) (w .𝓡))
 
-pub clear-gives : (w : World) (γ : Env) (name : Name) → γ name ≡ clear-symbol.routine
-    → Known (w .𝓤) (w .H) (w .𝓖 .A) (givenOf (w .𝓤) (w .H) (w .𝓜) (w .𝓖)) (Over (w .𝓤) (w .H) (w .𝓜) (w .𝓖) (w .𝓡) γ) 1
-    clear-kinds.ps clear-kinds.r clear-reads.Asked clear-reads.Learnt name
+pub clear-gives : Gives 1 clear-kinds.ps clear-kinds.r clear-reads.Asked clear-reads.Learnt clear-symbol.routine
 clear-gives w γ name e = clear-reads.known w γ name clear-symbol.routine e (clear-theorem.met (w .𝓤) (w .H) (w .𝓜) (w .𝓖) (w .𝓡))
 
-pub ask-gives : (w : World) (γ : Env) (name : Name) → γ name ≡ ask-symbol.routine
-    → Known (w .𝓤) (w .H) (w .𝓖 .A) (givenOf (w .𝓤) (w .H) (w .𝓜) (w .𝓖)) (Over (w .𝓤) (w .H) (w .𝓜) (w .𝓖) (w .𝓡) γ) 1
-    ask-kinds.ps ask-kinds.r ask-reads.Asked ask-reads.Learnt name
+pub ask-gives : Gives 1 ask-kinds.ps ask-kinds.r ask-reads.Asked ask-reads.Learnt ask-symbol.routine
 ask-gives w γ name e = ask-reads.known w γ name ask-symbol.routine e (ask-theorem.met (w .𝓤) (w .H) (w .𝓜) (w .𝓖) (w .𝓡))
 
-pub count-gives : (w : World) (γ : Env) (name : Name) → γ name ≡ count-symbol.routine
-    → Known (w .𝓤) (w .H) (w .𝓖 .A) (givenOf (w .𝓤) (w .H) (w .𝓜) (w .𝓖)) (Over (w .𝓤) (w .H) (w .𝓜) (w .𝓖) (w .𝓡) γ) 1
-    count-kinds.ps count-kinds.r count-reads.Asked count-reads.Learnt name
+pub count-gives : Gives 1 count-kinds.ps count-kinds.r count-reads.Asked count-reads.Learnt count-symbol.routine
 count-gives w γ name e = count-reads.known w γ name count-symbol.routine e (count-theorem.met (w .𝓤) (w .H) (w .𝓜) (w .𝓖) (w .𝓡))
 
-pub list-gives : (w : World) (γ : Env) (name : Name) → γ name ≡ list-symbol.routine
-    → Known (w .𝓤) (w .H) (w .𝓖 .A) (givenOf (w .𝓤) (w .H) (w .𝓜) (w .𝓖)) (Over (w .𝓤) (w .H) (w .𝓜) (w .𝓖) (w .𝓡) γ) 2
-    list-kinds.ps list-kinds.r list-reads.Asked list-reads.Learnt name
+pub list-gives : Gives 2 list-kinds.ps list-kinds.r list-reads.Asked list-reads.Learnt list-symbol.routine
 list-gives w γ name e = list-reads.known w γ name list-symbol.routine e (list-theorem.met (w .𝓤) (w .H) (w .𝓜) (w .𝓖) (w .𝓡))
 
-pub save-gives : (w : World) (γ : Env) (name : Name) → γ name ≡ save-symbol.routine
-    → Known (w .𝓤) (w .H) (w .𝓖 .A) (givenOf (w .𝓤) (w .H) (w .𝓜) (w .𝓖)) (Over (w .𝓤) (w .H) (w .𝓜) (w .𝓖) (w .𝓡) γ) 2
-    save-kinds.ps save-kinds.r save-reads.Asked save-reads.Learnt name
+pub save-gives : Gives 2 save-kinds.ps save-kinds.r save-reads.Asked save-reads.Learnt save-symbol.routine
 save-gives w γ name e = save-reads.known w γ name save-symbol.routine e (save-theorem.met (w .𝓤) (w .H) (w .𝓜) (w .𝓖) (w .𝓡))
 
-pub load-gives : (w : World) (γ : Env) (name : Name) → γ name ≡ load-symbol.routine
-    → Known (w .𝓤) (w .H) (w .𝓖 .A) (givenOf (w .𝓤) (w .H) (w .𝓜) (w .𝓖)) (Over (w .𝓤) (w .H) (w .𝓜) (w .𝓖) (w .𝓡) γ) 2
-    load-kinds.ps load-kinds.r load-reads.Asked load-reads.Learnt name
+pub load-gives : Gives 2 load-kinds.ps load-kinds.r load-reads.Asked load-reads.Learnt load-symbol.routine
 load-gives w γ name e = load-reads.known w γ name load-symbol.routine e (load-theorem.met (w .𝓤) (w .H) (w .𝓜) (w .𝓖) (w .𝓡))
 
-pub check-gives : (w : World) (γ : Env) (name : Name) → γ name ≡ check-symbol.routine
-    → Known (w .𝓤) (w .H) (w .𝓖 .A) (givenOf (w .𝓤) (w .H) (w .𝓜) (w .𝓖)) (Over (w .𝓤) (w .H) (w .𝓜) (w .𝓖) (w .𝓡) γ) 1
-    check-kinds.ps check-kinds.r check-reads.Asked check-reads.Learnt name
+pub check-gives : Gives 1 check-kinds.ps check-kinds.r check-reads.Asked check-reads.Learnt check-symbol.routine
 check-gives w γ name e = check-reads.known w γ name check-symbol.routine e (check-theorem.met (w .𝓤) (w .H) (w .𝓜) (w .𝓖) (w .𝓡))
