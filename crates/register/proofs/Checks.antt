@@ -16,7 +16,7 @@ other-refusal differ e = absurd (differ (ap (λ (c : Answer). c .refusal) e))
 other-value : {A : Type 0} {a b : Answer} → (a .first ≡ b .first → ⊥) → a ≡ b → A
 other-value differ e = absurd (differ (ap (λ (c : Answer). c .first) e))
 
-module _ (words : List ℕ) where
+module _ {words : List ℕ} where
   pub check-refused : (UsableStore words → ⊥) → CheckMeets words (checking.Refused 3)
   check-refused unusable = record {
     unusable = (λ e. unusable, λ u. refl);

@@ -14,7 +14,7 @@ use Rattle.register.specs.declared.Outcome.the-variants as outcome
 use Rattle.register.specs.Load.{LoadMeets}
 use Rattle.pktree.proofs.Absurd.{zero-is-not-one}
 
-module _ (before after bytes : List ℕ) where
+module _ {before after bytes : List ℕ} where
   pub load-refused : (UsableStore before → ⊥) → after ≡ before → LoadMeets before after bytes (outcome.Refused 3)
   load-refused fails same =
       record {

@@ -43,7 +43,7 @@ have-codes {words} p =
     let on = p .on-panel in
     record { x0-below = omega (arith, on .0 .0); y0-below = omega (arith, on .0 .1); x1-below = omega (arith, on .1 .0); y1-below = omega (arith, on .1 .1) }
 
-module _ (words : List ℕ) (x y : ℕ) where
+module _ {words : List ℕ} {x y : ℕ} where
   pub ask-refused : (n : ℕ) → PixelRefused words x y n → AskMeets words x y (asking.Refused n)
   ask-refused n h =
       record {
@@ -54,7 +54,7 @@ module _ (words : List ℕ) (x y : ℕ) where
         sound = λ set holds on. absurd (never-refused-pixel words x y n h (holds .sound .usable) on);
       }
 
-  module _ (sizes : Sizes) (code : ℕ) (p : PixelGiven words x y sizes code) where
+  module _ {sizes : Sizes} {code : ℕ} (p : PixelGiven words x y sizes code) where
     pub ask-known : (marked : Bool) (opened : ℕ) → AskAnswer words code (asked.Known marked opened) → AskMeets words x y (asking.Answered marked opened)
     ask-known marked opened a =
         record {
@@ -80,7 +80,7 @@ module _ (words : List ℕ) (x y : ℕ) where
           sound = λ set holds on. zero-is-not-one (cc (a .sound set holds));
         }
 
-module _ (words : List ℕ) (x0 y0 x1 y1 : ℕ) where
+module _ {words : List ℕ} {x0 y0 x1 y1 : ℕ} where
   -- 3, 4 or 8 by its number
   window-refused : (n : ℕ) → WindowRefused words x0 y0 x1 y1 n → WindowRefusals words x0 y0 x1 y1 (refused n)
   window-refused n (inl (e, fails)) =
@@ -106,7 +106,7 @@ module _ (words : List ℕ) (x0 y0 x1 y1 : ℕ) where
       }
 
   -- the condition of such a refusal fails where an answer is due
-  pub never-refused : (n : ℕ) → WindowRefused words x0 y0 x1 y1 n → UsableStore words → CornersOn words x0 y0 x1 y1 → InOrder x0 y0 x1 y1 → ⊥
+  never-refused : (n : ℕ) → WindowRefused words x0 y0 x1 y1 n → UsableStore words → CornersOn words x0 y0 x1 y1 → InOrder x0 y0 x1 y1 → ⊥
   never-refused n (inl (e, fails)) u on o = fails u
   never-refused n (inr (inl (e, v, off))) u on o = off on
   never-refused n (inr (inr (e, v, w, fails))) u on o = fails o
@@ -121,7 +121,7 @@ module _ (words : List ℕ) (x0 y0 x1 y1 : ℕ) where
         sound = λ set holds on o. absurd (never-refused n h (holds .sound .usable) on o);
       }
 
-  module _ (sizes : Sizes) (p : WindowGiven words x0 y0 x1 y1 sizes) where
+  module _ {sizes : Sizes} (p : WindowGiven words x0 y0 x1 y1 sizes) where
     -- no refusal of these applies
     window-given : (a : Answer) → (a .refusal ≡ 3 → ⊥) → (a .refusal ≡ 4 → ⊥) → (a .refusal ≡ 8 → ⊥) → (Spoiled words → a .refusal ≡ 13) → WindowRefusals words x0 y0 x1 y1 a
     window-given a n3 n4 n8 s =
@@ -156,7 +156,7 @@ module _ (words : List ℕ) (x0 y0 x1 y1 : ℕ) where
           sound = λ set holds on o. zero-is-not-one (cc (a .sound set holds (record { x-ordered = o .0; y-ordered = o .1 }) (on .0)));
         }
 
-  module _ (before after : List ℕ) where
+  module _ {before after : List ℕ} where
     pub list-refused : (n : ℕ) → WindowRefused words x0 y0 x1 y1 n → after ≡ before → ListMeets words x0 y0 x1 y1 before after (listing.Refused n)
     list-refused n h same =
         record {
@@ -172,12 +172,12 @@ module _ (words : List ℕ) (x0 y0 x1 y1 : ℕ) where
           long = ap length same;
         }
 
-    module _ (sizes : Sizes) (p : WindowGiven words x0 y0 x1 y1 sizes) where
+    module _ {sizes : Sizes} (p : WindowGiven words x0 y0 x1 y1 sizes) where
       pub list-written : (n opened : ℕ) → ListAnswer words (windowGiven x0 y0 x1 y1) before after (listed.Written n opened)
           → ListMeets words x0 y0 x1 y1 before after (listing.Found n opened)
       list-written n opened a =
           record {
-            refusals = window-given sizes p (accepted n opened) (omega arith) (omega arith) (omega arith) (λ s. zero-is-not-one (cc (a .closed (spoiled-shut words (p .usable) s))));
+            refusals = window-given p (accepted n opened) (omega arith) (omega arith) (omega arith) (λ s. zero-is-not-one (cc (a .closed (spoiled-shut words (p .usable) s))));
             else-answered = λ u on o. inl refl;
             zeros = λ z q. absurd (z refl);
             no-opened = λ z. absurd (z refl);
@@ -196,7 +196,7 @@ module _ (words : List ℕ) (x0 y0 x1 y1 : ℕ) where
       pub list-short : (n : ℕ) → ListAnswer words (windowGiven x0 y0 x1 y1) before after (listed.Short n) → ListMeets words x0 y0 x1 y1 before after (listing.Short n)
       list-short n a =
           record {
-            refusals = window-given sizes p (record { refusal = 9; first = n; second = 0 }) (omega arith) (omega arith) (omega arith)
+            refusals = window-given p (record { refusal = 9; first = n; second = 0 }) (omega arith) (omega arith) (omega arith)
                 (λ s. zero-is-not-one (cc (a .closed (spoiled-shut words (p .usable) s))));
             else-answered = λ u on o. inr (inl refl);
             zeros = λ z q. absurd (q refl);
@@ -216,7 +216,7 @@ module _ (words : List ℕ) (x0 y0 x1 y1 : ℕ) where
       pub list-damaged : ListAnswer words (windowGiven x0 y0 x1 y1) before after listed.Broken → ListMeets words x0 y0 x1 y1 before after (listing.Refused 13)
       list-damaged a =
           record {
-            refusals = window-given sizes p (refused 13) (omega arith) (omega arith) (omega arith) (λ s. refl);
+            refusals = window-given p (refused 13) (omega arith) (omega arith) (omega arith) (λ s. refl);
             else-answered = λ u on o. inr (inr refl);
             zeros = λ z q. refl;
             no-opened = λ z. refl;
@@ -228,7 +228,7 @@ module _ (words : List ℕ) (x0 y0 x1 y1 : ℕ) where
             long = a .long;
           }
 
-module _ (words before after : List ℕ) where
+module _ {words before after : List ℕ} where
   pub save-refused : (UsableStore words → ⊥) → after ≡ before → SaveMeets words before after (saving.Refused 3)
   save-refused fails same =
       record {

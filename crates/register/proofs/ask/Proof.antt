@@ -10,24 +10,17 @@ ask-requires c κs =
     ((p .usable, p .sizes-are), p .code-on-panel)
 
 returns : tie.Need-returns
-returns c =
-    let j = c .before .before .before in
-    let a = j .before .before .args in
-    ask-refused (a .store .now) (a .x) (a .y) _ (rw (c .before .number .given .1) at (j .judge-pixel .ensures))
+returns c = ask-refused _ (rw (c .before .number .given .1) at (c .before .before .before .judge-pixel .ensures))
 
 returns-2 : tie.Need-returns-2
 returns-2 c =
     let s = c .before .before .before .before .before in
-    let j = s .before .before in
-    let a = j .before .before .args in
-    ask-known (a .store .now) (a .x) (a .y) _ _ (rw (s .sizes .given .1) at (j .judge-pixel .ensures)) _ _ (rw (c .before .marked .given .1) at (c .before .before .before .ask .ensures))
+    ask-known (rw (s .sizes .given .1) at (s .before .before .judge-pixel .ensures)) _ _ (rw (c .before .marked .given .1) at (c .before .before .before .ask .ensures))
 
 returns-3 : tie.Need-returns-3
 returns-3 c =
     let s = c .before .before .before .before in
-    let j = s .before .before in
-    let a = j .before .before .args in
-    ask-damaged (a .store .now) (a .x) (a .y) _ _ (rw (s .sizes .given .1) at (j .judge-pixel .ensures)) (rw (c .enum-told .given .1) at (c .before .before .ask .ensures))
+    ask-damaged (rw (s .sizes .given .1) at (s .before .before .judge-pixel .ensures)) (rw (c .enum-told .given .1) at (c .before .before .ask .ensures))
 
 pub ask-spec : {M : Type 1} → statement M
 ask-spec =

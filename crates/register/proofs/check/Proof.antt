@@ -6,9 +6,7 @@ use Rattle.register.proofs.check.Statement.{statement}
 use Rattle.register.proofs.check.Tie as tie
 
 returns : tie.Need-returns
-returns c =
-    let words = c .before .before .before .before .args .store .now in
-    check-refused words (rw (c .enum-told .given .1) at (c .before .before .read-sizes .ensures))
+returns c = check-refused (rw (c .enum-told .given .1) at (c .before .before .read-sizes .ensures))
 
 is-sound-requires : tie.Need-is-sound-requires
 is-sound-requires c κs =
@@ -17,16 +15,12 @@ is-sound-requires c κs =
     (p .1, p .0)
 
 returns-2 : tie.Need-returns-2
-returns-2 c =
-    let words = c .before .before .before .before .before .before .before .args .store .now in
-    check-sound words (decided-true (c .if1 .taken) (c .before .is-sound .ensures))
+returns-2 c = check-sound (decided-true (c .if1 .taken) (c .before .is-sound .ensures))
 
 returns-3 : tie.Need-returns-3
 returns-3 c =
-    let words = c .before .before .before .before .before .before .before .args .store .now in
-    let s = c .before .before .before in
-    let p = rw (s .sizes .given .1) at (s .before .before .read-sizes .ensures) in
-    check-unsound words (p .1) (decided-false (c .if1 .left) (c .before .is-sound .ensures))
+    let s = c .before in
+    check-unsound (is-sound-requires (s .before) (s .is-sound .lifetimes) .0) (decided-false (c .if1 .left) (s .is-sound .ensures))
 
 pub check-spec : {M : Type 1} → statement M
 check-spec =

@@ -10,25 +10,17 @@ count-requires c κs =
     (p .usable, p .sizes-are, have-codes p)
 
 returns : tie.Need-returns
-returns c =
-    let j = c .before .before .before in
-    let a = j .before .before .args in
-    count-refused (a .store .now) (a .x0) (a .y0) (a .x1) (a .y1) _ (rw (c .before .number .given .1) at (j .judge-window .ensures))
+returns c = count-refused _ (rw (c .before .number .given .1) at (c .before .before .before .judge-window .ensures))
 
 returns-2 : tie.Need-returns-2
 returns-2 c =
     let s = c .before .before .before .before .before in
-    let j = s .before .before in
-    let a = j .before .before .args in
-    count-found (a .store .now) (a .x0) (a .y0) (a .x1) (a .y1) _ (rw (s .sizes .given .1) at (j .judge-window .ensures)) _ _
-    (rw (c .before .found .given .1) at (c .before .before .before .count .ensures))
+    count-found (rw (s .sizes .given .1) at (s .before .before .judge-window .ensures)) _ _ (rw (c .before .found .given .1) at (c .before .before .before .count .ensures))
 
 returns-3 : tie.Need-returns-3
 returns-3 c =
     let s = c .before .before .before .before in
-    let j = s .before .before in
-    let a = j .before .before .args in
-    count-damaged (a .store .now) (a .x0) (a .y0) (a .x1) (a .y1) _ (rw (s .sizes .given .1) at (j .judge-window .ensures)) (rw (c .enum-told .given .1) at (c .before .before .count .ensures))
+    count-damaged (rw (s .sizes .given .1) at (s .before .before .judge-window .ensures)) (rw (c .enum-told .given .1) at (c .before .before .count .ensures))
 
 pub count-spec : {M : Type 1} → statement M
 count-spec =

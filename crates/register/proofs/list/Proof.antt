@@ -12,37 +12,25 @@ list-requires c κs =
     (p .usable, p .sizes-are, have-codes p)
 
 returns : tie.Need-returns
-returns c =
-    let j = c .before .before .before in
-    let a = j .before .before .before .args in
-    list-refused (a .store .now) (a .x0) (a .y0) (a .x1) (a .y1) (a .output .now) _ _ (rw (c .before .number .given .1) at (j .judge-window .ensures)) refl
+returns c = list-refused _ (rw (c .before .number .given .1) at (c .before .before .before .judge-window .ensures)) refl
 
 returns-2 : tie.Need-returns-2
 returns-2 c =
     let l = c .before .before .before .before .before in
     let s = l .before .before .before in
-    let j = s .before .before in
-    let a = j .before .before .before .args in
-    list-written (a .store .now) (a .x0) (a .y0) (a .x1) (a .y1) (a .output .now) _ _ (rw (s .sizes .given .1) at (j .judge-window .ensures)) _ _
-    (rw (c .before .found .given .1) at (l .list .ensures))
+    list-written (rw (s .sizes .given .1) at (s .before .before .judge-window .ensures)) _ _ (rw (c .before .found .given .1) at (l .list .ensures))
 
 returns-3 : tie.Need-returns-3
 returns-3 c =
     let l = c .before .before .before .before .before in
     let s = l .before .before .before in
-    let j = s .before .before in
-    let a = j .before .before .before .args in
-    list-short (a .store .now) (a .x0) (a .y0) (a .x1) (a .y1) (a .output .now) _ _ (rw (s .sizes .given .1) at (j .judge-window .ensures)) _
-    (rw (c .before .needed .given .1) at (l .list .ensures))
+    list-short (rw (s .sizes .given .1) at (s .before .before .judge-window .ensures)) _ (rw (c .before .needed .given .1) at (l .list .ensures))
 
 returns-4 : tie.Need-returns-4
 returns-4 c =
     let l = c .before .before .before .before in
     let s = l .before .before .before in
-    let j = s .before .before in
-    let a = j .before .before .before .args in
-    list-damaged (a .store .now) (a .x0) (a .y0) (a .x1) (a .y1) (a .output .now) _ _ (rw (s .sizes .given .1) at (j .judge-window .ensures))
-    (rw (c .enum-told .given .1) at (l .list .ensures))
+    list-damaged (rw (s .sizes .given .1) at (s .before .before .judge-window .ensures)) (rw (c .enum-told .given .1) at (l .list .ensures))
 
 pub list-spec : {M : Type 1} → statement M
 list-spec =

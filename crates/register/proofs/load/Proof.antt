@@ -6,9 +6,7 @@ use Rattle.register.proofs.load.Statement.{statement}
 use Rattle.register.proofs.load.Tie as tie
 
 returns : tie.Need-returns
-returns c =
-    let a = c .before .before .before .before .before .before .args in
-    load-refused (a .store .now) _ (a .image .now) (rw (c .enum-told .given .1) at (c .before .before .read-sizes .ensures)) refl
+returns c = load-refused (rw (c .enum-told .given .1) at (c .before .before .read-sizes .ensures)) refl
 
 load-requires : tie.Need-load-requires
 load-requires c κs =
@@ -19,34 +17,22 @@ load-requires c κs =
 returns-2 : tie.Need-returns-2
 returns-2 c =
     let l = c .before .before .before .before in
-    let s = l .before .before .before in
-    let j = s .before .before in
-    let a = j .before .before .before .before .args in
-    load-done (a .store .now) _ (a .image .now) ((rw (s .sizes .given .1) at (j .read-sizes .ensures)) .1) (rw (c .enum-told2 .given .1) at (l .load .ensures))
+    load-done (load-requires (l .before) (l .load .lifetimes) .0) (rw (c .enum-told2 .given .1) at (l .load .ensures))
 
 returns-3 : tie.Need-returns-3
 returns-3 c =
     let l = c .before .before .before .before in
-    let s = l .before .before .before in
-    let j = s .before .before in
-    let a = j .before .before .before .before .args in
-    load-malformed (a .store .now) _ (a .image .now) ((rw (s .sizes .given .1) at (j .read-sizes .ensures)) .1) (rw (c .enum-told3 .given .1) at (l .load .ensures))
+    load-malformed (load-requires (l .before) (l .load .lifetimes) .0) (rw (c .enum-told3 .given .1) at (l .load .ensures))
 
 returns-4 : tie.Need-returns-4
 returns-4 c =
     let l = c .before .before .before .before in
-    let s = l .before .before .before in
-    let j = s .before .before in
-    let a = j .before .before .before .before .args in
-    load-unlike (a .store .now) _ (a .image .now) ((rw (s .sizes .given .1) at (j .read-sizes .ensures)) .1) (rw (c .enum-told4 .given .1) at (l .load .ensures))
+    load-unlike (load-requires (l .before) (l .load .lifetimes) .0) (rw (c .enum-told4 .given .1) at (l .load .ensures))
 
 returns-5 : tie.Need-returns-5
 returns-5 c =
     let l = c .before .before .before .before in
-    let s = l .before .before .before in
-    let j = s .before .before in
-    let a = j .before .before .before .before .args in
-    load-no-set (a .store .now) _ (a .image .now) ((rw (s .sizes .given .1) at (j .read-sizes .ensures)) .1) (rw (c .enum-told5 .given .1) at (l .load .ensures))
+    load-no-set (load-requires (l .before) (l .load .lifetimes) .0) (rw (c .enum-told5 .given .1) at (l .load .ensures))
 
 pub load-spec : {M : Type 1} → statement M
 load-spec =

@@ -6,9 +6,7 @@ use Rattle.register.proofs.save.Statement.{statement}
 use Rattle.register.proofs.save.Tie as tie
 
 returns : tie.Need-returns
-returns c =
-    let a = c .before .before .before .before .before .args in
-    save-refused (a .store .now) (a .output .now) _ (rw (c .enum-told .given .1) at (c .before .before .read-sizes .ensures)) refl
+returns c = save-refused (rw (c .enum-told .given .1) at (c .before .before .read-sizes .ensures)) refl
 
 save-requires : tie.Need-save-requires
 save-requires c κs =
@@ -19,26 +17,17 @@ save-requires c κs =
 returns-2 : tie.Need-returns-2
 returns-2 c =
     let v = c .before .before .before .before .before in
-    let s = v .before .before .before in
-    let j = s .before .before in
-    let a = j .before .before .before .args in
-    saved-whole (a .store .now) (a .output .now) _ ((rw (s .sizes .given .1) at (j .read-sizes .ensures)) .1) _ (rw (c .before .length .given .1) at (v .save .ensures))
+    saved-whole (save-requires (v .before) (v .save .lifetimes) .0) _ (rw (c .before .length .given .1) at (v .save .ensures))
 
 returns-3 : tie.Need-returns-3
 returns-3 c =
     let v = c .before .before .before .before .before in
-    let s = v .before .before .before in
-    let j = s .before .before in
-    let a = j .before .before .before .args in
-    saved-short (a .store .now) (a .output .now) _ ((rw (s .sizes .given .1) at (j .read-sizes .ensures)) .1) _ (rw (c .before .needed .given .1) at (v .save .ensures))
+    saved-short (save-requires (v .before) (v .save .lifetimes) .0) _ (rw (c .before .needed .given .1) at (v .save .ensures))
 
 returns-4 : tie.Need-returns-4
 returns-4 c =
     let v = c .before .before .before .before in
-    let s = v .before .before .before in
-    let j = s .before .before in
-    let a = j .before .before .before .args in
-    saved-damaged (a .store .now) (a .output .now) _ ((rw (s .sizes .given .1) at (j .read-sizes .ensures)) .1) (rw (c .enum-told2 .given .1) at (v .save .ensures))
+    saved-damaged (save-requires (v .before) (v .save .lifetimes) .0) (rw (c .enum-told2 .given .1) at (v .save .ensures))
 
 pub save-spec : {M : Type 1} → statement M
 save-spec =
