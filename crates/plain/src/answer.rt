@@ -1,5 +1,6 @@
 ghost use Prim.Native.Nat.{_≤_};
 ghost use mathlib.Core.Path.{_≡_};
+ghost use Rattle.plain.specs.Decides.{Decides};
 // 01's number of the refusal, 0 for none, and the values beside it.
 pub struct Answer {
     pub number: u32,
@@ -43,8 +44,16 @@ pub fn done() -> Answer
     answered(0, 0)
 }
 
-pub fn equal(a: Answer, b: Answer) -> bool {
-    a.number == b.number && a.first == b.first && a.second == b.second
+pub fn equal(a: Answer, b: Answer) -> bool
+    ensures { λ r. ⌜ Decides r ((a .number ≡ b .number) × (a .first ≡ b .first) × (a .second ≡ b .second)) ⌝ }
+{
+    if a.number != b.number {
+        return false;
+    }
+    if a.first != b.first {
+        return false;
+    }
+    a.second == b.second
 }
 
 pub fn number_of(yes: bool) -> u32

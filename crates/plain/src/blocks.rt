@@ -1,7 +1,8 @@
 // 01 "Blocks": the entries of a set's image, its instantiated blocks and, at level 0, its pixels. They stand behind the plain set's codes:
 // word 65 is their number; then level and code of each, in no order.
+ghost use Prim.Native.Nat.{_+_, _*_, _%_};
 ghost use mathlib.Core.Path.{_≡_};
-ghost use lib.ListN.{length};
+ghost use lib.ListN.{length, getD};
 use crate::codes::last_code;
 use crate::codes::quarter;
 use crate::panel::Panel;
@@ -11,15 +12,21 @@ use crate::words::product_and;
 use crate::words::put;
 use crate::words::word;
 
-pub fn entry_number(plain: &[u32]) -> u32 {
+pub fn entry_number(plain: &[u32]) -> u32
+    ensures { λ r. ⌜ r ≡ getD (now (plain .entry)) 65 0 ⌝ }
+{
     word(plain, 65)
 }
 
-pub fn level_of(plain: &[u32], i: u32) -> u32 {
+pub fn level_of(plain: &[u32], i: u32) -> u32
+    ensures { λ r. ⌜ r ≡ getD (now (plain .entry)) ((i * 2 + 66) % 4294967296) 0 ⌝ }
+{
     word(plain, product_and(i, 2, 66))
 }
 
-pub fn entry_code(plain: &[u32], i: u32) -> u32 {
+pub fn entry_code(plain: &[u32], i: u32) -> u32
+    ensures { λ r. ⌜ r ≡ getD (now (plain .entry)) ((i * 2 + 67) % 4294967296) 0 ⌝ }
+{
     word(plain, product_and(i, 2, 67))
 }
 

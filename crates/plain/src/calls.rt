@@ -1,5 +1,8 @@
 // The plain set program's answers: what 01 says of each call on a sound store.
 ghost use Prim.Native.Nat.{_≤_};
+ghost use mathlib.Core.Logic.{_⊎_};
+ghost use Rattle.plain.specs.Decides.{Decides};
+ghost use Rattle.plain.specs.Block.{sideOf};
 use crate::answer::Answer;
 use crate::answer::answered;
 use crate::answer::done;
@@ -25,8 +28,14 @@ use crate::windows::write_found;
 use crate::words::place;
 use crate::words::put;
 
-pub fn off_panel(panel: Panel, x: u32, y: u32) -> bool {
-    side_of(panel.order) <= x || side_of(panel.order) <= y
+pub fn off_panel(panel: Panel, x: u32, y: u32) -> bool
+    ensures { λ r. ⌜ Decides r ((sideOf (panel .order) ≤ x) ⊎ (sideOf (panel .order) ≤ y)) ⌝ }
+{
+    let side = side_of(panel.order);
+    if side <= x {
+        return true;
+    }
+    side <= y
 }
 
 pub fn make(panel: Panel, length: usize, plain: &mut [u32]) -> Answer

@@ -1,6 +1,7 @@
 // 01 "The image", from the entries.
+ghost use Prim.Native.Nat.{_+_, _*_, _%_};
 ghost use mathlib.Core.Path.{_≡_};
-ghost use lib.ListN.{length};
+ghost use lib.ListN.{length, getD};
 use crate::blocks::entry_code;
 use crate::blocks::entry_number;
 use crate::blocks::level_of;
@@ -10,7 +11,9 @@ use crate::words::product_and;
 use crate::words::put_byte;
 use crate::words::put_four_bytes;
 
-pub fn image_length(plain: &[u32]) -> u32 {
+pub fn image_length(plain: &[u32]) -> u32
+    ensures { λ r. ⌜ r ≡ (10 + 5 * getD (now (plain .entry)) 65 0) % 4294967296 ⌝ }
+{
     product_and(entry_number(plain), 5, 10)
 }
 

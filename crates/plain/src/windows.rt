@@ -1,5 +1,6 @@
+ghost use Prim.Native.Nat.{_≤_};
 ghost use mathlib.Core.Path.{_≡_};
-ghost use lib.ListN.{length};
+ghost use lib.ListN.{length, getD};
 use crate::blocks::entry_code;
 use crate::blocks::entry_number;
 use crate::blocks::level_of;
@@ -35,12 +36,16 @@ fn is_found(plain: &[u32], i: u32, window: Window) -> bool {
 }
 
 // The pixels in the window.
-pub fn found_in(plain: &[u32], window: Window) -> u32 {
+pub fn found_in(plain: &[u32], window: Window) -> u32
+    ensures { λ r. ⌜ r ≤ getD (now (plain .entry)) 65 0 ⌝ }
+{
     found_below(plain, window, 4294967295)
 }
 
 // The pixels in the window up to this code.
-fn found_below(plain: &[u32], window: Window, last: u32) -> u32 {
+fn found_below(plain: &[u32], window: Window, last: u32) -> u32
+    ensures { λ r. ⌜ r ≤ getD (now (plain .entry)) 65 0 ⌝ }
+{
     let mut found = 0;
     for i in 0..entry_number(plain) {
         found = one_more_if(
@@ -52,7 +57,9 @@ fn found_below(plain: &[u32], window: Window, last: u32) -> u32 {
 }
 
 // The instantiated blocks that share a pixel with the window.
-pub fn opened_by(plain: &[u32], window: Window) -> u32 {
+pub fn opened_by(plain: &[u32], window: Window) -> u32
+    ensures { λ r. ⌜ r ≤ getD (now (plain .entry)) 65 0 ⌝ }
+{
     let mut opened = 0;
     for i in 0..entry_number(plain) {
         opened = one_more_if(

@@ -1,7 +1,9 @@
 // Words and bytes by a 32-bit index: past the end nothing is read (zero) and nothing written.
-ghost use Prim.Native.Nat.{_≤_};
+ghost use Prim.Native.Nat.{_+_, _*_, _%_, _≤_, _<_};
 ghost use mathlib.Core.Path.{_≡_};
-ghost use lib.ListN.{length};
+ghost use lib.ListN.{length, getD};
+ghost use Rattle.plain.specs.FourBytes.{FourBytes};
+ghost use Rattle.plain.specs.FirstDifference.{FirstDifference};
 
 pub fn place(at: u32) -> usize
     ensures { λ r. ⌜ r ≡ at ⌝ }
@@ -18,7 +20,9 @@ pub fn narrow(length: usize) -> u32
     length as u32
 }
 
-pub fn word(words: &[u32], at: u32) -> u32 {
+pub fn word(words: &[u32], at: u32) -> u32
+    ensures { λ r. ⌜ r ≡ getD (now (words .entry)) at 0 ⌝ }
+{
     let i = place(at);
     if words.len() <= i {
         return 0;
@@ -43,7 +47,9 @@ pub fn add_one(words: &mut [u32], at: u32)
     put(words, at, std::num::wrapping_add_u32(value, 1));
 }
 
-fn wide(value: u8) -> u32 {
+fn wide(value: u8) -> u32
+    ensures { λ r. ⌜ r ≡ value ⌝ }
+{
     value as u32
 }
 
@@ -51,7 +57,9 @@ fn low_byte(value: u32) -> u8 {
     (value % 256) as u8
 }
 
-pub fn byte(bytes: &[u8], at: u32) -> u32 {
+pub fn byte(bytes: &[u8], at: u32) -> u32
+    ensures { λ r. ⌜ (r ≡ getD (now (bytes .entry)) at 0) × (r < 256) ⌝ }
+{
     let i = place(at);
     if bytes.len() <= i {
         return 0;
@@ -70,20 +78,28 @@ pub fn put_byte(bytes: &mut [u8], at: u32, value: u32)
 }
 
 // a · b + c, modulo 2^32.
-pub fn product_and(a: u32, b: u32, c: u32) -> u32 {
+pub fn product_and(a: u32, b: u32, c: u32) -> u32
+    ensures { λ r. ⌜ r ≡ (a * b + c) % 4294967296 ⌝ }
+{
     std::num::wrapping_add_u32(low_half(product(a, b)), c)
 }
 
-fn product(a: u32, b: u32) -> u64 {
+fn product(a: u32, b: u32) -> u64
+    ensures { λ r. ⌜ r ≡ a * b ⌝ }
+{
     (a as u64) * (b as u64)
 }
 
-fn low_half(value: u64) -> u32 {
+fn low_half(value: u64) -> u32
+    ensures { λ r. ⌜ r ≡ value % 4294967296 ⌝ }
+{
     (value % 4294967296) as u32
 }
 
 // Four bytes, the low byte first.
-pub fn four_bytes(bytes: &[u8], at: u32) -> u32 {
+pub fn four_bytes(bytes: &[u8], at: u32) -> u32
+    ensures { λ r. ⌜ FourBytes (now (bytes .entry)) at r ⌝ }
+{
     let low = product_and(byte(bytes, product_and(at, 1, 1)), 256, byte(bytes, at));
     let high = product_and(
         byte(bytes, product_and(at, 1, 3)),
@@ -112,7 +128,9 @@ pub fn copy_words(from: &[u32], number: u32, to: &mut [u32], at: u32)
 }
 
 // The first index from `low` on, below `high`, at which the one differs from the other, which begins at `start`; `high` if there is none.
-pub fn differing_word(a: &[u32], b: &[u32], start: u32, low: u32, high: u32) -> u32 {
+pub fn differing_word(a: &[u32], b: &[u32], start: u32, low: u32, high: u32) -> u32
+    ensures { λ r. ⌜ FirstDifference (λ i. getD (now (a .entry)) i 0) (λ i. getD (now (b .entry)) ((i + start) % 4294967296) 0) low high r ⌝ }
+{
     for i in low..high {
         if word(a, i) != word(b, product_and(i, 1, start)) {
             return i;
@@ -122,7 +140,7 @@ pub fn differing_word(a: &[u32], b: &[u32], start: u32, low: u32, high: u32) -> 
 }
 
 pub fn differing_byte(a: &[u8], b: &[u8], number: u32) -> u32
-    ensures { λ r. ⌜ r ≤ number ⌝ }
+    ensures { λ r. ⌜ FirstDifference (λ i. getD (now (a .entry)) i 0) (λ i. getD (now (b .entry)) i 0) 0 number r ⌝ }
 {
     for i in 0..number {
         if byte(a, i) != byte(b, i) {

@@ -1,11 +1,11 @@
--- `plain::windows::opened_by` ends: the index rises to the bound.
-use Prim.Native.Nat.{_-_, _≤_}
+-- `plain::windows::opened_by` meets its contract: no more are counted than were looked at, and the index rises to the number of entries.
 use borrow.Author.Needs.{needs}
+use Prim.Native.Nat.{_-_, _≤_}
 use Rattle.plain.proofs.windows.opened_by.Statement.{statement}
 use Rattle.plain.proofs.windows.opened_by.Tie as tie
 
 abbrev Inv-loop : tie.InvT-loop
-Inv-loop plain window opened₀ i₀ i-end opened i = i ≤ i-end
+Inv-loop plain window opened₀ i₀ i-end opened i = (i ≤ i-end) × (opened ≤ i)
 
 abbrev μ-loop : tie.MeasureT-loop
 μ-loop plain window opened₀ i₀ i-end opened i = i-end - i

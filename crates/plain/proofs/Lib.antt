@@ -1,0 +1,6 @@
+mod FirstDifference
+mod Decides
+mod Bits
+mod BlockCodes
+mod Counts
+mod Holding
