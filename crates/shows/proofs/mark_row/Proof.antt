@@ -1,11 +1,11 @@
--- `shows::row::mark_row` ends: x rises to 400.
+-- `shows::mark_row` ends: x rises to 400.
 use Prim.Native.Nat.{_-_, _≤_}
 use native.Mathlib.Omega.{arith}
 use mathlib.Core.Path.{_≡_}
 use lib.ListN.{length}
 use borrow.Author.Needs.{needs}
-use Rattle.shows.proofs.row.mark_row.Statement.{statement}
-use Rattle.shows.proofs.row.mark_row.Tie as tie
+use Rattle.shows.proofs.mark_row.Statement.{statement}
+use Rattle.shows.proofs.mark_row.Tie as tie
 
 abbrev Inv-loop : tie.InvT-loop
 Inv-loop store₀ x₀ store x = (x ≤ 400) × (length store ≡ length store₀)
