@@ -1,3 +1,5 @@
+ghost use Prim.Native.Nat.{_≤_, _<_};
+
 fn scaled(x: u32) -> u32 {
     ((x as u64) * 2146121005 % 4294967296) as u32
 }
@@ -9,12 +11,16 @@ fn scrambled(x: u32) -> u32 {
 }
 
 // A number below 16, another for each place.
-fn below_16(seed: u32, place: u32) -> u32 {
+fn below_16(seed: u32, place: u32) -> u32
+    ensures { λ r. ⌜ r < 16 ⌝ }
+{
     scrambled(std::num::wrapping_add_u32(scrambled(seed), place)) % 16
 }
 
 // The call's number: mark more often than clear, then ask, list, save and load.
-fn number_drawn(seed: u32, call: u32) -> u32 {
+fn number_drawn(seed: u32, call: u32) -> u32
+    ensures { λ r. ⌜ r ≤ 6 ⌝ }
+{
     let d = below_16(seed, call);
     if d < 9 {
         return 0;
@@ -29,7 +35,9 @@ fn number_drawn(seed: u32, call: u32) -> u32 {
 }
 
 // A word of the script: calls have six words, load takes the image whole.
-pub fn word_drawn(seed: u32, place: u32) -> u32 {
+pub fn word_drawn(seed: u32, place: u32) -> u32
+    ensures { λ r. ⌜ r ≤ 40 ⌝ }
+{
     let number = number_drawn(seed, place / 6);
     let part = place % 6;
     if part == 0 {

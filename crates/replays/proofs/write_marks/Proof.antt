@@ -1,20 +1,20 @@
--- `replays::lists::draw_script` ends: the index rises to the end of the script.
+-- `replays::write_marks` ends: the index rises to the end of the script.
 use Prim.Native.Nat.{_-_, _≤_}
 use native.Mathlib.Omega.{arith}
 use mathlib.Core.Path.{_≡_}
 use lib.ListN.{length, length-set}
 use borrow.Author.Needs.{needs}
-use Rattle.replays.proofs.lists.draw_script.Statement.{statement}
-use Rattle.replays.proofs.lists.draw_script.Tie as tie
+use Rattle.replays.proofs.write_marks.Statement.{statement}
+use Rattle.replays.proofs.write_marks.Tie as tie
 
 abbrev Inv-loop : tie.InvT-loop
-Inv-loop script₀ seed i₀ place₀ script i place = (i ≤ length script) × (length script ≡ length script₀)
+Inv-loop script₀ codes found i₀ script i = (i ≤ length script) × (length script ≡ length script₀)
 
 abbrev μ-loop : tie.MeasureT-loop
-μ-loop script₀ seed i₀ place₀ script i place = length script - i
+μ-loop script₀ codes found i₀ script i = length script - i
 
-pub draw-script-spec : {M : Type 1} → statement M
-draw-script-spec =
+pub write-marks-spec : {M : Type 1} → statement M
+write-marks-spec =
     tie.close
     (tie.spec
     Inv-loop
@@ -23,7 +23,6 @@ draw-script-spec =
     (λ c κs. search needs)
     (λ c. omega arith)
     (λ c. omega arith)
-    (λ c κs. search needs)
     (λ c. omega arith)
     (λ c. simp length-set (omega arith))
     (λ c. simp length-set (omega arith, search needs))

@@ -1,16 +1,15 @@
--- `replays::lists::same_bytes` ends: the index rises to the length.
+-- `replays::same_bytes` ends: the index rises to the number of bytes.
 use Prim.Native.Nat.{_-_, _≤_}
 use native.Mathlib.Omega.{arith}
-use lib.ListN.{length}
 use borrow.Author.Needs.{needs}
-use Rattle.replays.proofs.lists.same_bytes.Statement.{statement}
-use Rattle.replays.proofs.lists.same_bytes.Tie as tie
+use Rattle.replays.proofs.same_bytes.Statement.{statement}
+use Rattle.replays.proofs.same_bytes.Tie as tie
 
 abbrev Inv-loop : tie.InvT-loop
-Inv-loop image other length i₀ i = i ≤ length
+Inv-loop image other number i₀ i = i ≤ number
 
 abbrev μ-loop : tie.MeasureT-loop
-μ-loop image other length i₀ i = length - i
+μ-loop image other number i₀ i = number - i
 
 pub same-bytes-spec : {M : Type 1} → statement M
 same-bytes-spec =

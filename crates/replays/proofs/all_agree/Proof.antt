@@ -1,12 +1,12 @@
--- `replays::lists::all_agree` ends: the seed rises to 200, and no slice changes its length.
+-- `replays::all_agree` ends: the seed rises to 200, and no slice changes its length.
 use Prim.Native.Nat.{ℕ, _-_, _≤_}
 use native.Mathlib.Omega.{arith}
 use mathlib.Core.Path.{_≡_}
 use mathlib.Core.List.{List}
 use lib.ListN.{length}
 use borrow.Author.Needs.{needs}
-use Rattle.replays.proofs.lists.all_agree.Statement.{statement}
-use Rattle.replays.proofs.lists.all_agree.Tie as tie
+use Rattle.replays.proofs.all_agree.Statement.{statement}
+use Rattle.replays.proofs.all_agree.Tie as tie
 
 abbrev AsLong : List ℕ → List ℕ → Type 0
 AsLong now then = length now ≡ length then
