@@ -1,24 +1,24 @@
+// The register's answers, printed; each function answers 01's number of the refusal, 0 for none.
+ghost use mathlib.Core.Path.{_≡_};
+ghost use Rattle.register.specs.Answer.{answer, askAnswer, countAnswer};
 use register::Asking;
 use register::Counting;
 use register::Outcome;
 use register::refusal_of;
 
-// A refusal's number; 0 is accepted.
-pub fn print_number(outcome: Outcome) {
+pub fn print_outcome(outcome: Outcome) -> u32
+    ensures { λ r. ⌜ r ≡ answer outcome .refusal ⌝ }
+{
+    let refusal = refusal_of(outcome);
     io::write_all(1, b" ");
-    io::print_decimal(1, refusal_of(outcome) as u64);
+    io::print_decimal(1, refusal as u64);
+    refusal
 }
 
-pub fn mark(store: &mut [u32], code: u32) {
-    print_number(register::mark(store, morton::x_of(code), morton::y_of(code)));
-}
-
-pub fn clear(store: &mut [u32], code: u32) {
-    print_number(register::clear(store, morton::x_of(code), morton::y_of(code)));
-}
-
-pub fn ask(store: &[u32], x: u32, y: u32) {
-    match register::ask(store, x, y) {
+pub fn print_asking(asking: Asking) -> u32
+    ensures { λ r. ⌜ r ≡ askAnswer asking .refusal ⌝ }
+{
+    match asking {
         Asking::Answered { marked, opened } => {
             if marked {
                 io::write_all(1, b" yes, opened ");
@@ -26,25 +26,31 @@ pub fn ask(store: &[u32], x: u32, y: u32) {
                 io::write_all(1, b" no, opened ");
             }
             io::print_decimal(1, opened as u64);
+            0
         }
         Asking::Refused(refusal) => {
             io::write_all(1, b" refused ");
             io::print_decimal(1, refusal as u64);
+            refusal
         }
     }
 }
 
-pub fn count(store: &[u32], x0: u32, y0: u32, x1: u32, y1: u32) {
-    match register::count(store, x0, y0, x1, y1) {
+pub fn print_counting(counting: Counting) -> u32
+    ensures { λ r. ⌜ r ≡ countAnswer counting .refusal ⌝ }
+{
+    match counting {
         Counting::Found { found, opened } => {
             io::write_all(1, b" found ");
             io::print_decimal(1, found as u64);
             io::write_all(1, b", opened ");
             io::print_decimal(1, opened as u64);
+            0
         }
         Counting::Refused(refusal) => {
             io::write_all(1, b" refused ");
             io::print_decimal(1, refusal as u64);
+            refusal
         }
     }
 }

@@ -1,12 +1,12 @@
 use native.Mathlib.Omega.{arith}
 use lib.ListN.{length-take}
 use borrow.Author.Needs.{needs}
-use Rattle.panels.proofs.entries.print_saved.Statement.{statement}
-use Rattle.panels.proofs.entries.print_saved.Tie as tie
+use Rattle.panels.proofs.print_saved.Statement.{statement}
+use Rattle.panels.proofs.print_saved.Tie as tie
 
 slice-aggregate-print-image : tie.Need-slice-aggregate-print-image
 slice-aggregate-print-image c =
-    let n = c .before .before .before .length .given .0 .0 in
+    let n = c .before .before .before .end .given .0 .0 in
     let written = c .before .before .before .before .before .before .before .save .last .1 .0 in
     omega (arith, c .before .if1 .left, length-take n written)
 

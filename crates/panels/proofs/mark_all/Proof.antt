@@ -1,11 +1,11 @@
--- `panels::lines::mark_all` ends: the index rises to the number of codes.
+-- `panels::mark_all` ends: the index rises to the number of codes.
 use Prim.Native.Nat.{_-_, _≤_}
 use native.Mathlib.Omega.{arith}
 use mathlib.Core.Path.{_≡_}
 use lib.ListN.{length}
 use borrow.Author.Needs.{needs}
-use Rattle.panels.proofs.lines.mark_all.Statement.{statement}
-use Rattle.panels.proofs.lines.mark_all.Tie as tie
+use Rattle.panels.proofs.mark_all.Statement.{statement}
+use Rattle.panels.proofs.mark_all.Tie as tie
 
 abbrev Inv-loop : tie.InvT-loop
 Inv-loop store₀ codes i₀ i-end store i = (i ≤ i-end) × (i-end ≡ length codes) × (length store ≡ length store₀)
