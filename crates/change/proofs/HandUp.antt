@@ -106,7 +106,7 @@ handed-up σ words after f way s level code es left free free′ h r lo hi =
       };
       says = r .frames-stand .1;
       was-fit = omega (arith, size-placed-join b (blockThen s level code nothing c));
-      settled = λ none. absurd (omega (arith, r .some));
+      right-if-none-inserted = λ none. absurd (omega (arith, r .some));
     }
   where
     moved : (t : ℕ) → occurrences t ((waySlots way ++ (f .slot ∷ slotsOf (f .before ⧻ (left ⧻ f .after)))) ++ free′)

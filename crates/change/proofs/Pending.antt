@@ -65,7 +65,7 @@ pub record Pending (σ : Setting) (words : List ℕ) (way : List Frame) (s level
   pub says : SlotSays (slotPart (widthIn σ) words s) level code (a ⧻ (removed ⧻ b))
   pub was-fit : size (forestOf (a ⧻ (removed ⧻ b))) ≤ 4 * (σ .k - 1)
   -- where nothing comes, the rest is right
-  pub settled : size (forestOf inserted) ≡ 0 → LocallyRight (σ .k) level code (forestOf (a ⧻ (inserted ⧻ b)))
+  pub right-if-none-inserted : size (forestOf inserted) ≡ 0 → LocallyRight (σ .k) level code (forestOf (a ⧻ (inserted ⧻ b)))
 
 -- done: the slot says the new elements
 pub record Laid (σ : Setting) (words : List ℕ) (way : List Frame) (s level code : ℕ) (es : Placed) (free : List ℕ) : Type 0 where

@@ -17,11 +17,11 @@ use store::opening::open_part;
 // What the elements of one block show of a code: it ends here, at a pixel of its own or between two elements, or in an inner block.
 pub enum Ahead {
     Here { place: usize, marked: bool },
-    Inner(Entry),
+    Inner(Child),
 }
 
 // An element that is a block: its place among the elements, and what it says of the block.
-pub struct Entry {
+pub struct Child {
     pub place: usize,
     pub slot: u32,
     pub level: u32,
@@ -59,7 +59,7 @@ pub fn look(part: &[u32], count: usize, code: u32) -> Ahead
     if level < morton::common_level(inner, code) {
         return between;
     }
-    Ahead::Inner(Entry {
+    Ahead::Inner(Child {
         place: last,
         slot,
         level,

@@ -30,7 +30,7 @@ use Rattle.step.specs.declared.Change.{Change}
 use Rattle.step.specs.declared.Placing.the-variants as placing
 use Rattle.step.specs.declared.Stepped.{Stepped}
 use Rattle.step.specs.declared.Stepped.the-variants.{Done, Up, Damaged}
-use Rattle.step.specs.Step.{Kept, CanPut, PutMeets, InSetting, SteppedRight, UpTo16, CanRegroup, RegroupMeets, SettleMeets, StepMeets}
+use Rattle.step.specs.Step.{Kept, CanPut, PutMeets, InSetting, SteppedRight, UpTo16, CanRegroup, RegroupMeets, UnderfullMeets, StepMeets}
 use Rattle.step.proofs.RegroupEnds.{kept-same, kept-but-slot, front-kept}
 use Rattle.step.proofs.StepLaws.{can-splice, laid-by-splice, right-as-it-is, done-as-it-is, up-with-all}
 
@@ -169,28 +169,28 @@ module _ {change : Change} {root : Bool} {slot place removed inserted count : �
     right = λ σ way level code a old new b free i p o n w h.
         let done = subst (λ (l : Layout). PutMeets l slot place removed inserted scratch before mid (placing.Elements count)) (i .layout-is) put in
         right σ way level code (a ⧻ (new ⧻ b)) free i
-        (laid-by-splice σ before way slot level code a old new b free place removed inserted scratch h p o n mid w (done .1) (done .2)) (λ none. h .settled (n ∙ none));
+        (laid-by-splice σ before way slot level code a old new b free place removed inserted scratch h p o n mid w (done .1) (done .2)) (λ none. h .right-if-none-inserted (n ∙ none));
   }
 
-  -- where the elements laid are right, the step ends as it settles
+  -- where the elements laid are right, the change is at rest, or the underfull block is deinstantiated
   module _ (right-then : (σ : Setting) (way : List Frame) (level code : ℕ) (es : Placed) (free : List ℕ) → InSetting σ change root way → Laid σ mid way slot level code es free
       → (inserted ≡ 0 → LocallyRight (σ .k) level code (forestOf es)) → LocallyRight (σ .k) level code (forestOf es)) where
-    settles : {after scratch′ : List ℕ} (r : Stepped) → change .k ≤ 16 → SettleMeets change root slot count mid after scratch scratch′ r
+    at-rest-or-deinstantiated : {after scratch′ : List ℕ} (r : Stepped) → change .k ≤ 16 → UnderfullMeets change root slot count mid after scratch scratch′ r
         → StepMeets change root slot place removed inserted before after scratch scratch′ r
-    settles Done k-to (e, same, scratch-same) = stepped (kept-same (change .layout) mid _ same) tt (ap length scratch-same)
+    at-rest-or-deinstantiated Done k-to (e, same, scratch-same) = stepped (kept-same (change .layout) mid _ same) tt (ap length scratch-same)
         (λ σ way level code es free i h s. subst (Completed σ) (sym same) (done-as-it-is σ mid way slot level code es free h (right-then σ way level code es free i h s)
         (enough σ change root way level code (size (forestOf es)) i (h .around .frames-right)
         (subst (λ (n : ℕ). (root ≡ true) ⊎ (change .k ≤ n)) (sym (count-then can put) ∙ count-says i h) e))))
-    settles {after} {scratch′} (Up n) k-to (e, few, u) =
+    at-rest-or-deinstantiated {after} {scratch′} (Up n) k-to (e, few, u) =
         stepped (kept-by-release (can .slot-below) (u .freed)) (omega (arith, u .rest-is, count-then can put)) (u .long)
         (λ σ way level code es free i h s. up-below-root σ mid way slot level code es free after scratch scratch′ n (i .root-is .1 e) h (right-then σ way level code es free i h s)
         (omega (arith, count-then can put, count-says i h, i .k-is)) (subst (λ (l : Layout). HandedUpAll l slot mid after scratch scratch′ n) (i .layout-is) u))
-    settles Damaged k-to bad = absurd bad
+    at-rest-or-deinstantiated Damaged k-to bad = absurd bad
 
   -- where nothing came, the elements are right
-  pub settles-empty : {after scratch′ : List ℕ} {r : Stepped} → inserted ≡ 0 → change .k ≤ 16 → SettleMeets change root slot count mid after scratch scratch′ r
+  pub at-rest-or-deinstantiated-none-inserted : {after scratch′ : List ℕ} {r : Stepped} → inserted ≡ 0 → change .k ≤ 16 → UnderfullMeets change root slot count mid after scratch scratch′ r
       → StepMeets change root slot place removed inserted before after scratch scratch′ r
-  settles-empty {r = r} none = settles (λ σ way level code es free i h s. s none) r
+  at-rest-or-deinstantiated-none-inserted {r = r} none = at-rest-or-deinstantiated (λ σ way level code es free i h s. s none) r
 
   module _ {part : List ℕ} (lent : part ≡ slotPart (change .layout .width) mid slot) where
     -- nor does a slot say a level above 16
@@ -205,10 +205,10 @@ module _ {change : Change} {root : Bool} {slot place removed inserted count : �
         found-in r (lent ∙ same-part i h) (sym (count-then can put) ∙ count-says i h) (ap levelWord lent ∙ level-says i h) (i .k-is) (i .x-is)
 
     -- no run: they are right too
-    pub settles-without-run : {after scratch′ : List ℕ} {r : Stepped} → RunMeets part count (getD part 0 0) (change .k) (change .code) Nothing → change .k ≤ 16
-        → SettleMeets change root slot count mid after scratch scratch′ r → StepMeets change root slot place removed inserted before after scratch scratch′ r
-    settles-without-run {r = r} none =
-        settles (λ σ way level code es free i h s. right-as-it-is σ mid way slot level code es free h (found Nothing i h none (ascends i h))) r
+    pub at-rest-or-deinstantiated-no-run : {after scratch′ : List ℕ} {r : Stepped} → RunMeets part count (getD part 0 0) (change .k) (change .code) Nothing → change .k ≤ 16
+        → UnderfullMeets change root slot count mid after scratch scratch′ r → StepMeets change root slot place removed inserted before after scratch scratch′ r
+    at-rest-or-deinstantiated-no-run {r = r} none =
+        at-rest-or-deinstantiated (λ σ way level code es free i h s. right-as-it-is σ mid way slot level code es free h (found Nothing i h none (ascends i h))) r
 
     -- a run: regrouping goes on with it
     pub formed-then : {after scratch′ : List ℕ} {j first n : ℕ} {r : Stepped}

@@ -92,10 +92,10 @@ pub record RegroupMeets (change : Change) (root : Bool) (slot level first size :
       → Laid σ before way slot outer code es free → FormedAt (σ .k) outer code (σ .x) level first size es → SteppedRight σ after scratch′ way slot r
 
 -- the block is the root or has k elements, and all is as it was; or all its elements go up
-abbrev pub SettleMeets : Change → Bool → ℕ → ℕ → List ℕ → List ℕ → List ℕ → List ℕ → Stepped → Type 0
-SettleMeets change root slot count before after scratch scratch′ Done = ((root ≡ true) ⊎ (change .k ≤ count)) × (after ≡ before) × (scratch′ ≡ scratch)
-SettleMeets change root slot count before after scratch scratch′ (Up n) = (root ≡ false) × (count < change .k) × HandedUpAll (change .layout) slot before after scratch scratch′ n
-SettleMeets change root slot count before after scratch scratch′ Damaged = ⊥
+abbrev pub UnderfullMeets : Change → Bool → ℕ → ℕ → List ℕ → List ℕ → List ℕ → List ℕ → Stepped → Type 0
+UnderfullMeets change root slot count before after scratch scratch′ Done = ((root ≡ true) ⊎ (change .k ≤ count)) × (after ≡ before) × (scratch′ ≡ scratch)
+UnderfullMeets change root slot count before after scratch scratch′ (Up n) = (root ≡ false) × (count < change .k) × HandedUpAll (change .layout) slot before after scratch scratch′ n
+UnderfullMeets change root slot count before after scratch scratch′ Damaged = ⊥
 
 pub record StepMeets (change : Change) (root : Bool) (slot place removed inserted : ℕ) (before after scratch scratch′ : List ℕ) (r : Stepped) : Type 0 where
   pub kept : Kept (change .layout) before after

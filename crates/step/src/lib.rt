@@ -3,7 +3,7 @@ ghost use Prim.Native.Nat.{_≤_, _<_};
 ghost use mathlib.Core.Path.{_≡_};
 ghost use Rattle.pktree.proofs.Alignment.{blockCode};
 ghost use Rattle.rewrite.specs.Rewrite.{CanHandUp};
-ghost use Rattle.step.specs.Step.{CanPut, PutMeets, CanRegroup, RegroupMeets, SettleMeets, StepMeets};
+ghost use Rattle.step.specs.Step.{CanPut, PutMeets, CanRegroup, RegroupMeets, UnderfullMeets, StepMeets};
 use measures::sizes::Layout;
 use measures::slots::offset;
 use measures::slots::slot_part;
@@ -112,8 +112,8 @@ pub fn regroup(
     }
 }
 
-// No block is to be formed: the change is at rest, or the elements of an underfull block go up.
-pub fn settle(
+// No block is to be formed: an underfull block is deinstantiated, its elements go up; else the change is at rest.
+pub fn deinstantiate_underfull(
     store: &mut [u32],
     change: Change,
     root: bool,
@@ -122,7 +122,7 @@ pub fn settle(
     scratch: &mut [u32],
 ) -> Stepped
     requires { ⌜ (count < change .k → CanHandUp (change .layout) (now store) slot 0 0 0 (now scratch)) ⌝ }
-    ensures { λ r. ⌜ SettleMeets change root slot count (now (store .entry)) (now (store .exit)) (now (scratch .entry)) (now (scratch .exit)) r ⌝ }
+    ensures { λ r. ⌜ UnderfullMeets change root slot count (now (store .entry)) (now (store .exit)) (now (scratch .entry)) (now (scratch .exit)) r ⌝ }
 {
     if root {
         return Stepped::Done;
@@ -154,7 +154,7 @@ pub fn step(
         return Stepped::Damaged;
     };
     if inserted == 0 {
-        return settle(store, change, root, slot, count, scratch);
+        return deinstantiate_underfull(store, change, root, slot, count, scratch);
     }
     let part = slot_part(store, layout, slot);
     let level = part[0];
@@ -163,7 +163,7 @@ pub fn step(
     }
     let near = place + inserted;
     match find_run(part, count, near, level, change.k, change.code) {
-        Run::Nothing => settle(store, change, root, slot, count, scratch),
+        Run::Nothing => deinstantiate_underfull(store, change, root, slot, count, scratch),
         Run::Formed {
             level: inner,
             first,

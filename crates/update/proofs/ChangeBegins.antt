@@ -155,7 +155,7 @@ module _ (words : List ℕ) (placed : Placed) (sound : Sound words placed) (code
       → (size (forestOf new) ≡ 0 → LocallyRight k (located .level) (located .block) (forestOf (a ⧻ (new ⧻ b))))
       → length (pixels (forestOf placed)) + length (pixels (forestOf new)) ≤ length (pixels (forestOf old)) + getD words 3 0
       → Begins words (sound .usable) (pixels (forestOf placed)) code slots places located old new
-  begins old new o n e disturbed settled room =
+  begins old new o n e disturbed right-if-none room =
       let (l, r, pix) = between-pixels (h .way) a b in
       let target : List ℕ = l ++ (pixels (forestOf new) ++ r) in
       let whole : placed ≡ plug (h .way) (located .slot) (located .level) (located .block) (a ⧻ (old ⧻ b)) =
@@ -224,7 +224,7 @@ module _ (words : List ℕ) (placed : Placed) (sound : Sound words placed) (code
             };
             says = subst (SlotSays (slotPart width words (located .slot)) (located .level) (located .block)) e (there .view .says);
             was-fit = fit;
-            settled = settled;
+            right-if-none-inserted = right-if-none;
           };
         };
       }

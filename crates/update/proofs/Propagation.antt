@@ -116,7 +116,7 @@ module _ (change : Change) (path places words scratch after scratch′ : List �
             pending = subst (λ (t : ℕ). Pending σ after w t (f .level) (f .code) (f .before) (blockThen slot (s .level) (s .code) nothing nothing) (s .left) (f .after) (s .free)) (sym es) (s .pending);
           }
 
-  -- so the path names the block around
+  -- so the path names the parent
   pub never-unnamed : (n : ℕ) → r ≡ Up n → (0 < depth → 75 < getD places (depth - 1) 0) → (σ : Setting) → OfChange σ change
       → PendingAt σ words path places depth slot place out coming scratch → ⊥
   never-unnamed n e none σ o p = go (decLt 0 depth)

@@ -15,14 +15,14 @@ use Rattle.change.proofs.Pending.{Setting, Pending}
 use Rattle.change.proofs.Completed.{Completed}
 use Rattle.step.specs.declared.Change.{Change}
 use Rattle.step.specs.Step.{Kept}
-use Rattle.update.specs.declared.propagate.Around.{Around}
-use Rattle.update.specs.declared.propagate.Around.the-variants.{Block, Nothing}
+use Rattle.update.specs.declared.propagate.Parent.{Parent}
+use Rattle.update.specs.declared.propagate.Parent.the-variants.{Block, Nothing}
 
--- the block around the one at this depth, as the path names it
-abbrev pub AroundIs : List ℕ → List ℕ → ℕ → Around → Type 0
-AroundIs slots places depth (Block slot place) =
+-- the parent of the block at this depth, as the path names it
+abbrev pub ParentIs : List ℕ → List ℕ → ℕ → Parent → Type 0
+ParentIs slots places depth (Block slot place) =
     (0 < depth) × (slot ≡ getD slots (depth - 1) 0) × (place ≡ getD places (depth - 1) 0) × (place ≤ 75)
-AroundIs slots places depth Nothing = 0 < depth → 75 < getD places (depth - 1) 0
+ParentIs slots places depth Nothing = 0 < depth → 75 < getD places (depth - 1) 0
 
 pub record CanPropagate (change : Change) (words : List ℕ) (located : Located) (slots : List ℕ) (removed inserted : ℕ) : Type 0 where
   pub fits : LayoutFits (change .layout) words

@@ -1,30 +1,30 @@
 ghost use Prim.Native.Nat.{_≤_};
-ghost use Rattle.update.specs.Propagate.{AroundIs, CanPropagate, PropagateMeets};
+ghost use Rattle.update.specs.Propagate.{ParentIs, CanPropagate, PropagateMeets};
 use descent::Located;
 use measures::slots::wide;
 use step::Change;
 use step::Stepped;
 use step::step;
 
-pub enum Around {
+pub enum Parent {
     Block(usize, usize),
     Nothing,
 }
 
-// The block around the one at this depth of the path: its slot, and the place of the element that was entered there.
-// Nothing is around the root, or where the path names a place that no slot has.
-fn block_around(slots: &[u32; 17], places: &[u32; 17], depth: usize) -> Around
+// The parent of the block at this depth of the path: its slot, and the place of the element that was entered there.
+// The root has none, nor has a block where the path names a place that no slot has.
+fn parent_of(slots: &[u32; 17], places: &[u32; 17], depth: usize) -> Parent
     requires { ⌜ depth ≤ 16 ⌝ }
-    ensures { λ r. ⌜ AroundIs (now (slots .entry)) (now (places .entry)) depth r ⌝ }
+    ensures { λ r. ⌜ ParentIs (now (slots .entry)) (now (places .entry)) depth r ⌝ }
 {
     if depth == 0 {
-        return Around::Nothing;
+        return Parent::Nothing;
     }
     let place = wide(places[depth - 1]);
     if 75 < place {
-        return Around::Nothing;
+        return Parent::Nothing;
     }
-    Around::Block(wide(slots[depth - 1]), place)
+    Parent::Block(wide(slots[depth - 1]), place)
 }
 
 // The change goes up the path, block by block, until it is at rest: true; false where the words cannot be a register's.
@@ -53,11 +53,11 @@ pub fn propagate(
             Stepped::Done => return true,
             Stepped::Damaged => return false,
             Stepped::Up(count) => {
-                let Around::Block(around, entered) = block_around(slots, places, depth) else {
+                let Parent::Block(parent, entered) = parent_of(slots, places, depth) else {
                     return false;
                 };
                 depth -= 1;
-                slot = around;
+                slot = parent;
                 place = entered;
                 out = 1;
                 coming = count;

@@ -3,7 +3,7 @@ use native.Mathlib.Omega.{arith}
 use borrow.Author.Needs.{needs}
 use Rattle.step.specs.declared.Placing.the-variants.{Elements}
 use Rattle.step.specs.Step.{PutMeets}
-use Rattle.step.proofs.StepEnds.{level-there, can-search, can-hand-up, can-regroup, never-refused, never-too-high, settles-empty, settles-without-run, formed-then}
+use Rattle.step.proofs.StepEnds.{level-there, can-search, can-hand-up, can-regroup, never-refused, never-too-high, at-rest-or-deinstantiated-none-inserted, at-rest-or-deinstantiated-no-run, formed-then}
 use Rattle.step.proofs.step.Statement.{statement}
 use Rattle.step.proofs.step.Tie as tie
 
@@ -17,8 +17,8 @@ placed c = rw (c .count .given .1) at (c .before .before .before .before .put .e
 returns : tie.Need-returns
 returns c = never-refused (c .before .before .before .before .before .before .before .before .before .before .pre .0) (rw (c .enum-told .given .1) at (c .before .before .before .before .put .ensures))
 
-settle-requires : tie.Need-settle-requires
-settle-requires c κs few =
+deinstantiate-underfull-requires : tie.Need-deinstantiate-underfull-requires
+deinstantiate-underfull-requires c κs few =
     let p = c .before .before .before .before in
     let s = p .before .before .before .before .before .before .before .before .before .before in
     can-hand-up (s .pre .0) (placed p) (omega (arith, s .pre .1))
@@ -29,7 +29,7 @@ returns-2 c =
     let none = u .before .before .before in
     let p = none .before .before in
     let s = p .before .before .before .before .before .before .before .before .before .before in
-    settles-empty (s .pre .0) (placed p) (none .if1 .taken) (s .pre .1 .1) (u .settle .ensures)
+    at-rest-or-deinstantiated-none-inserted (s .pre .0) (placed p) (none .if1 .taken) (s .pre .1 .1) (u .deinstantiate-underfull .ensures)
 
 shared-slice-read-level : tie.Need-shared-slice-read-level
 shared-slice-read-level c =
@@ -50,8 +50,8 @@ find-run-requires c κs =
     let s = p .before .before .before .before .before .before .before .before .before .before in
     ((can-search (s .pre .0) (placed p) (at .slot-part .ensures), omega (arith, placed p .0, placed p .1 .cut)), (c .if2 .left, s .pre .1))
 
-settle-requires-2 : tie.Need-settle-requires-2
-settle-requires-2 c κs few =
+deinstantiate-underfull-requires-2 : tie.Need-deinstantiate-underfull-requires-2
+deinstantiate-underfull-requires-2 c κs few =
     let p = c .before .before .before .before .before .before .before .before .before .before .before in
     let s = p .before .before .before .before .before .before .before .before .before .before in
     can-hand-up (s .pre .0) (placed p) (omega (arith, s .pre .1))
@@ -72,7 +72,7 @@ returns-4 c =
     let at = f .before .before .before in
     let p = at .before .before .before .before in
     let s = p .before .before .before .before .before .before .before .before .before .before in
-    settles-without-run (s .pre .0) (placed p) (at .slot-part .ensures) (rw (e .enum-told2 .given .1) at (f .find-run .ensures)) (s .pre .1 .1) (u .settle2 .ensures)
+    at-rest-or-deinstantiated-no-run (s .pre .0) (placed p) (at .slot-part .ensures) (rw (e .enum-told2 .given .1) at (f .find-run .ensures)) (s .pre .1 .1) (u .deinstantiate-underfull2 .ensures)
 
 returns-5 : tie.Need-returns-5
 returns-5 c =
@@ -94,7 +94,7 @@ step-spec =
     (λ c. search needs)
     (λ c. search needs)
     returns
-    settle-requires
+    deinstantiate-underfull-requires
     (λ c. search needs)
     (λ c. search needs)
     returns-2
@@ -106,7 +106,7 @@ step-spec =
     (λ c. search needs)
     find-run-requires
     (λ c. search needs)
-    settle-requires-2
+    deinstantiate-underfull-requires-2
     (λ c. search needs)
     regroup-requires
     (λ c. search needs)

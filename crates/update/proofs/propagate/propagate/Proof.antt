@@ -8,8 +8,8 @@ use borrow.Author.Needs.{needs}
 use Rattle.change.proofs.Pending.{Setting}
 use Rattle.step.specs.Step.{Kept, UpTo16}
 use Rattle.step.proofs.StepEnds.{kept-then}
-use Rattle.update.specs.declared.propagate.Around.the-variants.{Block}
-use Rattle.update.specs.Propagate.{AroundIs, PendingAt}
+use Rattle.update.specs.declared.propagate.Parent.the-variants.{Block}
+use Rattle.update.specs.Propagate.{ParentIs, PendingAt}
 use Rattle.update.proofs.Propagation.{InBounds, Carried, fits-kept, rests, never-damaged, moves-up, never-unnamed, begins}
 use Rattle.update.proofs.propagate.propagate.Statement.{statement}
 use Rattle.update.proofs.propagate.propagate.Tie as tie
@@ -101,13 +101,13 @@ returns-3 c =
       right = λ σ o p. absurd
           (never-unnamed (a .args .change) (a .args .slots .now) (a .args .places .now) (l .loop .store) (l .loop .scratch) _ _ (l .loop .depth) (l .loop .slot) (l .loop .place)
           (l .loop .out) (l .loop .coming) (s .step .result) (s .step .ensures) _ (c .before .before .before .before .count .given .1)
-          (rw (c .enum-told3 .given .1) at (c .before .before .block-around .ensures)) σ o (l .loop .inv .2 σ o (named σ (sym w) refl p)));
+          (rw (c .enum-told3 .given .1) at (c .before .before .parent-of .ensures)) σ o (l .loop .inv .2 σ o (named σ (sym w) refl p)));
     }
 
 -- what was read off the path
-around : (c : tie.After-known-told2 Inv-loop μ-loop) → (let l = c .before .before .before .before .before .before .before .before .before .before .before .before .before in
-    AroundIs (l .before .before .before .args .slots .now) (l .before .before .before .args .places .now) (l .loop .depth) (Block (c .before .around .given .0 .0) (c .before .around .given .0 .1 .0)))
-around c = rw (c .before .around .given .1) at (c .before .before .before .block-around .ensures)
+parent : (c : tie.After-known-told2 Inv-loop μ-loop) → (let l = c .before .before .before .before .before .before .before .before .before .before .before .before .before in
+    ParentIs (l .before .before .before .args .slots .now) (l .before .before .before .args .places .now) (l .loop .depth) (Block (c .before .parent .given .0 .0) (c .before .parent .given .0 .1 .0)))
+parent c = rw (c .before .parent .given .1) at (c .before .before .before .parent-of .ensures)
 
 loop-again : tie.Need-loop-again Inv-loop μ-loop
 loop-again c =
@@ -116,7 +116,7 @@ loop-again c =
     let a = l .before .before .before in
     let i = l .loop .inv .0 in
     let up = c .before .before .before .before .before .count .given .1 in
-    let n = around c in (
+    let n = parent c in (
       record {
         fits = fits-kept (a .args .change .layout) (l .loop .store) (s .step .last .0) (s .step .ensures .kept) (i .fits);
         scratch-long = s .step .ensures .scratch-long ∙ i .scratch-long;
@@ -156,6 +156,6 @@ propagate-spec =
     (λ c. search needs)
     (λ c. search needs)
     returns-3
-    (λ c. omega (arith, around c .0))
-    (λ c. omega (arith, around c .0))
+    (λ c. omega (arith, parent c .0))
+    (λ c. omega (arith, parent c .0))
     loop-again)

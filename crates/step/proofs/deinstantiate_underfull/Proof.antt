@@ -1,9 +1,9 @@
--- `step::settle` meets its contract: its tests are those of the contract.
+-- `step::deinstantiate_underfull` meets its contract: its tests are those of the contract.
 use mathlib.Core.Path.{refl}
 use mathlib.Core.Logic.{inl, inr}
 use borrow.Author.Needs.{needs}
-use Rattle.step.proofs.settle.Statement.{statement}
-use Rattle.step.proofs.settle.Tie as tie
+use Rattle.step.proofs.deinstantiate_underfull.Statement.{statement}
+use Rattle.step.proofs.deinstantiate_underfull.Tie as tie
 
 returns : tie.Need-returns
 returns c = (inl (c .if1 .taken), refl, refl)
@@ -20,5 +20,5 @@ returns-3 c =
     let f = u .before .before .before in
     (f .before .before .if1 .left, f .if2 .left, u .hand-up-all .ensures)
 
-pub settle-spec : {M : Type 1} → statement M
-settle-spec = tie.close (tie.spec returns returns-2 hand-up-all-requires (λ c. search needs) (λ c. search needs) returns-3)
+pub deinstantiate-underfull-spec : {M : Type 1} → statement M
+deinstantiate-underfull-spec = tie.close (tie.spec returns returns-2 hand-up-all-requires (λ c. search needs) (λ c. search needs) returns-3)
