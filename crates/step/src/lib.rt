@@ -1,7 +1,5 @@
 // One block of the path of a change: its elements change, a block is formed in it, or its elements go up.
 ghost use Prim.Native.Nat.{_≤_, _<_};
-ghost use mathlib.Core.Path.{_≡_};
-ghost use Rattle.pktree.proofs.Alignment.{blockCode};
 ghost use Rattle.rewrite.specs.Rewrite.{CanHandUp};
 ghost use Rattle.step.specs.Step.{CanPut, PutMeets, CanRegroup, RegroupMeets, UnderfullMeets, StepMeets};
 use measures::sizes::Layout;
@@ -14,7 +12,6 @@ use rewrite::hand_up_all;
 use rewrite::hand_up_block;
 use rewrite::splice_slot;
 use runs::Run;
-use runs::block_size;
 use runs::find_run;
 
 // Where the slots lie, k, and the code at which the set changes.
@@ -59,15 +56,6 @@ pub fn put(
     Placing::Elements(after)
 }
 
-// The code of the block of this level that holds the code.
-pub fn block_code(code: u32, level: u32) -> u32
-    requires { ⌜ level ≤ 15 ⌝ }
-    ensures { λ r. ⌜ r ≡ blockCode level code ⌝ }
-{
-    let size = block_size(level);
-    code / size * size
-}
-
 pub enum Stepped {
     Done,
     Up(usize),
@@ -89,7 +77,7 @@ pub fn regroup(
     ensures { λ r. ⌜ RegroupMeets change root slot level first size (now (store .entry)) (now (store .exit)) (now (scratch .entry)) (now (scratch .exit)) r ⌝ }
 {
     let layout = change.layout;
-    let code = block_code(change.code, level);
+    let code = morton::block_around(change.code, level);
     let at = offset(layout, slot);
     let rest = wide(store[at + 2]) - size + 1;
     if !root {

@@ -37,7 +37,7 @@ returns c =
     let a = w .before .before .before .before .before .before .before in
     let layout = a .args .change .layout in
     let e = w .wide .ensures ∙ count-at layout (a .args .store .now) (a .args .slot) _ (a .pre .fits) (a .pre .slot-below) (w .before .before .offset .ensures) in
-    let d = w .before .before .before .block-code in
+    let d = w .before .before .before .block-around in
     let r = u .hand-up-block .ensures in
     record {
       kept = kept-but-slot layout (a .args .slot) (a .args .store .now) _ (a .pre .slot-below) (r .only);
@@ -56,7 +56,7 @@ returns-2 c =
     let a = w .before .before .before .before .before .before .before in
     let layout = a .args .change .layout in
     let e = w .wide .ensures ∙ count-at layout (a .args .store .now) (a .args .slot) _ (a .pre .fits) (a .pre .slot-below) (w .before .before .offset .ensures) in
-    let d = w .before .before .before .block-code in
+    let d = w .before .before .before .block-around in
     let r = rw (c .enum-told .given .1) at (f .form-block .ensures) in
     record {
       kept = record { long = r .long; head = front-kept _ (a .args .store .now) (f .form-block .last .0) (r .head); past = r .past (layout .slots) (a .pre .slot-below) (r .fresh-below) };
@@ -83,7 +83,7 @@ returns-3 c =
     let a = w .before .before .before .before .before .before .before in
     let layout = a .args .change .layout in
     let e = w .wide .ensures ∙ count-at layout (a .args .store .now) (a .args .slot) _ (a .pre .fits) (a .pre .slot-below) (w .before .before .offset .ensures) in
-    let d = w .before .before .before .block-code in
+    let d = w .before .before .before .block-around in
     let r = rw (c .enum-told2 .given .1) at (f .form-block .ensures) in
     record {
       kept = kept-same layout (a .args .store .now) _ (r .0);
