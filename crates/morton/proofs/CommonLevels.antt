@@ -1,18 +1,13 @@
 -- The level of two codes, from the length in bits of their difference.
-use mathlib.Core.Path.{_≡_, refl, sym, ap, _∙_}
-use Prim.Native.Nat.{ℕ, zero, suc, _+_, _-_, _*_, _/_, _^_, _≤_, _<_}
+use mathlib.Core.Path.{_≡_, sym, ap, _∙_}
+use Prim.Native.Nat.{ℕ, suc, _+_, _-_, _*_, _/_, _^_, _≤_, _<_}
 use native.Mathlib.Nat.{pow-suc, lt-of-not-le, not-le-of-lt, div-lt-iff-lt-mul, div-eq-of-lt, lt-of-lt-of-le}
 use native.Mathlib.Omega.{arith}
 use lib.Pow.{pow-pos, pow-mono}
 use lib.Bits.{bitXor, xor-shr, xor-self, xor-lt, xor-add-and, and-le-l, and-le-r}
 use lib.Count.{leadingZeros, leading-length}
 use Rattle.morton.specs.CommonLevel.{CommonLevel}
-
-pub four-pow : (i : ℕ) → 4 ^ i ≡ 2 ^ (i + i)
-four-pow zero = refl
-four-pow (suc i) =
-    let e : 2 ^ (suc i + suc i) ≡ 2 ^ suc (suc (i + i)) = ap (λ (n : ℕ). 2 ^ n) (omega arith) in
-    omega (arith, e, pow-suc 2 (suc (i + i)), pow-suc 2 (i + i), pow-suc 4 i, four-pow i)
+use Rattle.morton.proofs.Blocks.{four-pow}
 
 -- numbers that differ nowhere are equal
 xor-zero : (a b : ℕ) → bitXor a b ≡ 0 → a ≡ b
@@ -40,15 +35,15 @@ common-level-law a b ha hb = record { common = holds; least = least; small = ome
     r : ℕ
     r = (32 - leadingZeros 32 d + 1) / 2
 
-    long : s .0 ≤ r + r
+    long : s .0 ≤ 2 * r
     long = omega (arith, s .1)
 
     holds : a / 4 ^ r ≡ b / 4 ^ r
-    holds = rw four-pow (same-high a b (r + r) (lt-of-lt-of-le (s .2) (pow-mono long)))
+    holds = rw (← four-pow r) (same-high a b (2 * r) (lt-of-lt-of-le (s .2) (pow-mono long)))
 
     least : (j : ℕ) → a / 4 ^ j ≡ b / 4 ^ j → r ≤ j
     least j e =
-        let f : bitXor a b < 2 ^ (j + j) = below-high a b (j + j) (rw four-pow at e) in
-        let g : 2 ^ s .0 < 2 ^ suc (j + j) = omega (arith, f, s .3, pow-suc 2 (j + j)) in
-        let k : s .0 < suc (j + j) = lt-of-not-le (λ q. not-le-of-lt g (pow-mono q)) in
+        let f : bitXor a b < 2 ^ (2 * j) = below-high a b (2 * j) (rw (← four-pow j) at e) in
+        let g : 2 ^ s .0 < 2 ^ suc (2 * j) = omega (arith, f, s .3, pow-suc 2 (2 * j)) in
+        let k : s .0 < suc (2 * j) = lt-of-not-le (λ q. not-le-of-lt g (pow-mono q)) in
         omega (arith, k, s .1)

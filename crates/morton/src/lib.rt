@@ -67,13 +67,20 @@ pub fn y_between(first: u32, last: u32, code: u32) -> bool
     is_between(first & 0xaaaa_aaaa, last & 0xaaaa_aaaa, code & 0xaaaa_aaaa)
 }
 
+// Which block of this level, in ascending order, a code lies in: its low bits shifted out.
+pub fn block_index(code: u32, level: u32) -> u32
+    requires { ⌜ level ≤ 15 ⌝ }
+    ensures { λ r. ⌜ r ≡ code / 4 ^ level ⌝ }
+{
+    code >> (2 * level)
+}
+
 // The code of the block of this level around a code: its low bits cleared.
 pub fn block_around(code: u32, level: u32) -> u32
     requires { ⌜ level ≤ 15 ⌝ }
     ensures { λ r. ⌜ r ≡ code / 4 ^ level * 4 ^ level ⌝ }
 {
-    let bits = 2 * level;
-    code >> bits << bits
+    block_index(code, level) << (2 * level)
 }
 
 // 01: the highest bit in which two codes differ gives the smallest block that holds both.

@@ -1,3 +1,2 @@
-mod BlockSizes
 pub mod Runs
 pub mod SlotCodes

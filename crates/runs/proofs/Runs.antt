@@ -13,6 +13,16 @@ use Rattle.pktree.proofs.Alignment.{pow-pos}
 use Rattle.store.specs.Splice.{codeAt, PlaceOf}
 use Rattle.runs.specs.Run.{Near, codesFrom, countNear, AscendingCodes, LevelBefore, LevelAt, ReachedLeft, ReachedRight, IsRun}
 
+-- all from left' up to right' are near, where x is and so are those from left up to right
+pub near-with : (part : List ℕ) (level code x : ℕ) {left right left' right' : ℕ} → ((i : ℕ) → left' ≤ i → i < right' → (i ≡ x → ⊥) → (left ≤ i) × (i < right))
+    → Near level code (codeAt part x) → ((i : ℕ) → left ≤ i → i < right → Near level code (codeAt part i))
+    → (i : ℕ) → left' ≤ i → i < right' → Near level code (codeAt part i)
+near-with part level code x others here near i a b =
+    elim (ℕ-discrete i x) [
+      | yes e ↦ rw e here
+      | no e ↦ let w = others i a b e in near i (w .0) (w .1)
+    ]
+
 -- codes whose common block is higher are not near
 not-near-at : {c code r : ℕ} (level : ℕ) → CommonLevel c code r → level < r → Near level code c → ⊥
 not-near-at level l h e = omega (arith, l .least level e)
@@ -114,10 +124,7 @@ module _ {part : List ℕ} {count code place : ℕ} (ascending : AscendingCodes 
     taken {k} {reached} r x left' right' u v l room m o =
         let up : reached < suc r = lt-of-not-le (λ w. let i = o .inside r x w (m .there) (l .common) in m .outside (i .0) (i .1)) in
         record {
-          near = λ i a b. elim (ℕ-discrete i x) [
-            | yes e ↦ rw e (l .common)
-            | no e ↦ let w = m .others i a b e in block-up _ _ (omega arith) (o .near i (w .0) (w .1))
-          ];
+          near = near-with part r code x (m .others) (l .common) (λ i a b. block-up _ _ (omega arith) (o .near i a b));
           inside = λ h j a b e. let w = inside-of h j (omega arith) (omega arith) b e in omega arith;
           few = λ h a. few-near k h room (omega arith) (omega arith);
         }

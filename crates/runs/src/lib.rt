@@ -1,6 +1,5 @@
 // Where a block is to be formed: the run of elements that it takes. It only reads.
-ghost use Prim.Native.Nat.{_^_, _≤_};
-ghost use mathlib.Core.Path.{_≡_};
+ghost use Prim.Native.Nat.{_≤_};
 ghost use Rattle.store.specs.Splice.{PlaceOf};
 ghost use Rattle.runs.specs.Run.{Counted, LevelAt, LevelBefore, ReachedLeft, ReachedRight, RunMeets};
 use store::elements::find_place;
@@ -37,24 +36,15 @@ pub fn level_before(part: &[u32], count: usize, i: usize, code: u32) -> u32
     morton::common_level(part[6 + 2 * i], code)
 }
 
-// How many codes a block of this level has.
-pub fn block_size(level: u32) -> u32
-    requires { ⌜ level ≤ 15 ⌝ }
-    ensures { λ r. ⌜ r ≡ 4 ^ level ⌝ }
-{
-    1u32 << (2 * level)
-}
-
 // How far to the left of `from` the elements in the block of this level around the code reach.
 pub fn reach_left(part: &[u32], count: usize, from: usize, code: u32, level: u32) -> usize
     requires { ⌜ (Counted (now part) count × (from ≤ count)) × (level ≤ 15) ⌝ }
     ensures { λ r. ⌜ ReachedLeft (now (part .entry)) from code level r ⌝ }
 {
-    let size = block_size(level);
-    let block = code / size;
+    let block = morton::block_index(code, level);
     let mut left = from;
     while 0 < left {
-        if part[6 + 2 * left] / size != block {
+        if morton::block_index(part[6 + 2 * left], level) != block {
             return left;
         }
         left -= 1;
@@ -66,11 +56,10 @@ pub fn reach_right(part: &[u32], count: usize, from: usize, code: u32, level: u3
     requires { ⌜ (Counted (now part) count × (from ≤ count)) × (level ≤ 15) ⌝ }
     ensures { λ r. ⌜ ReachedRight (now (part .entry)) count from code level r ⌝ }
 {
-    let size = block_size(level);
-    let block = code / size;
+    let block = morton::block_index(code, level);
     let mut right = from;
     while right < count {
-        if part[8 + 2 * right] / size != block {
+        if morton::block_index(part[8 + 2 * right], level) != block {
             return right;
         }
         right += 1;

@@ -1,43 +1,38 @@
 -- `runs::reach_left` meets its contract: at every turn all from `left` up to `from` are near.
-use Prim.Native.Nat.{ℕ, _+_, _*_, _≤_, _<_}
+use Prim.Native.Nat.{ℕ, _+_, _-_, _*_, _≤_, _<_}
 use native.Mathlib.Omega.{arith}
-use native.Mathlib.Nat.{eq-or-lt-of-le}
-use mathlib.Core.Path.{_≡_}
-use mathlib.Core.Logic.{⊎-elim}
+use mathlib.Core.Path.{_≡_, sym, _∙_}
 use borrow.Author.Needs.{needs}
-use Rattle.pktree.proofs.Alignment.{pow-pos}
 use Rattle.store.specs.Splice.{codeAt}
 use Rattle.runs.specs.Run.{Near}
+use Rattle.runs.proofs.Runs.{near-with}
 use Rattle.runs.proofs.reach_left.Statement.{statement}
 use Rattle.runs.proofs.reach_left.Tie as tie
 
 abbrev Inv-loop : tie.InvT-loop
-Inv-loop part count from code level size block left₀ left = (left ≤ from) × ((i : ℕ) → left ≤ i → i < from → Near level code (codeAt part i))
+Inv-loop part count from code level block left₀ left = (left ≤ from) × ((i : ℕ) → left ≤ i → i < from → Near level code (codeAt part i))
 
 abbrev μ-loop : tie.MeasureT-loop
-μ-loop part count from code level size block left₀ left = left
-
-div-block : tie.Need-div-block Inv-loop μ-loop
-div-block c = omega (arith, c .block-size .ensures, pow-pos (c .before .before .args .level))
-
-div-if1 : tie.Need-div-if1 Inv-loop μ-loop
-div-if1 c = omega (arith, c .before .before .before .block-size .ensures, pow-pos (c .before .before .before .before .before .args .level))
+μ-loop part count from code level block left₀ left = left
 
 returns : tie.Need-returns Inv-loop μ-loop
 returns c =
-    let l = c .before .before .before .loop in
-    let size-is = c .before .before .before .before .block-size .ensures in
+    let l = c .before .before .before .before .loop in
+    let block = c .before .before .before .before .before .block-index in
     record {
       within = l .inv .0;
       near = l .inv .1;
-      ends = λ i e near. let at : 8 + 2 * i ≡ 6 + 2 * l .left = omega arith in c .if1 .taken (rw (← at, size-is) near);
+      ends = λ i e near. let before : 8 + 2 * i ≡ 6 + 2 * l .left = omega arith in c .if1 .taken (c .before .block-index2 .ensures ∙ rw (before) at near ∙ sym (block .ensures));
     }
 
 loop-again : tie.Need-loop-again Inv-loop μ-loop
 loop-again c =
-    let l = c .before .before .before .loop in
-    let size-is = c .before .before .before .before .block-size .ensures in
-    (omega arith, λ i p q. ⊎-elim (λ e. let at : 8 + 2 * i ≡ 6 + 2 * l .left = omega arith in rw (at, ← size-is) (c .if1 .left)) (λ s. l .inv .1 i (omega arith) q) (eq-or-lt-of-le p))
+    let l = c .before .before .before .before .loop in
+    let block = c .before .before .before .before .before .block-index in
+    let a = c .before .before .before .before .before .before .before .args in
+    let before : 8 + 2 * (l .left - 1) ≡ 6 + 2 * l .left = omega arith in
+    let here = rw (← before) at (sym (c .before .block-index2 .ensures) ∙ c .if1 .left ∙ block .ensures) in
+    (omega arith, near-with (a .part .now) (a .level) (a .code) (l .left - 1) (omega arith) here (l .inv .1))
 
 returns-2 : tie.Need-returns-2 Inv-loop μ-loop
 returns-2 c = let l = c .before .loop in record { within = l .inv .0; near = l .inv .1; ends = λ i e n. omega arith }
@@ -49,13 +44,12 @@ reach-left-spec =
     Inv-loop
     μ-loop
     (λ c κs. search needs)
-    div-block
     (λ c. search needs)
     (λ c. search needs)
     (λ c. search needs)
     (λ c. search needs)
     (λ c. search needs)
-    div-if1
+    (λ c κs. search needs)
     returns
     (λ c. search needs)
     (λ c. search needs)
