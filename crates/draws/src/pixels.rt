@@ -1,5 +1,9 @@
 // Pixels and windows drawn: from a crowded corner of the panel, from the whole panel, of the set, off the panel.
-ghost use Prim.Native.Nat.{_≤_};
+ghost use Prim.Native.Nat.{_-_, _≤_, _<_};
+ghost use mathlib.Core.Path.{_≡_};
+ghost use mathlib.Core.Logic.{_⊎_};
+ghost use Rattle.plain.specs.Block.{sideOf};
+ghost use Rattle.draws.specs.CodeInside.{CodeInside};
 use crate::Step;
 use crate::draw;
 use crate::word_drawn;
@@ -18,7 +22,10 @@ pub struct Pixel {
     pub y: u32,
 }
 
-pub fn pixel_drawn(panel: Panel, step: Step, purpose: u32, set: &[u32]) -> Pixel {
+// At most one coordinate is past every panel.
+pub fn pixel_drawn(panel: Panel, step: Step, purpose: u32, set: &[u32]) -> Pixel
+    ensures { λ r. ⌜ (r .x < 65536) ⊎ (r .y < 65536) ⌝ }
+{
     let kind = draw(step, purpose, 16);
     if kind == 0 {
         return outside(panel, step, purpose);
@@ -30,7 +37,9 @@ pub fn pixel_drawn(panel: Panel, step: Step, purpose: u32, set: &[u32]) -> Pixel
 }
 
 // A pixel of the set, if it has one.
-pub fn held(panel: Panel, step: Step, purpose: u32, set: &[u32]) -> Pixel {
+pub fn held(panel: Panel, step: Step, purpose: u32, set: &[u32]) -> Pixel
+    ensures { λ r. ⌜ (r .x < 65536) × (r .y < 65536) ⌝ }
+{
     if number(set) == 0 {
         return inside(panel, step, purpose);
     }
@@ -42,7 +51,9 @@ pub fn held(panel: Panel, step: Step, purpose: u32, set: &[u32]) -> Pixel {
 }
 
 // One pixel in four is drawn from the whole panel, the others from a square that the seed places.
-pub fn inside(panel: Panel, step: Step, purpose: u32) -> Pixel {
+fn inside(panel: Panel, step: Step, purpose: u32) -> Pixel
+    ensures { λ r. ⌜ (r .x < sideOf (panel .order)) × (r .y < sideOf (panel .order)) × (r .x < 65536) × (r .y < 65536) ⌝ }
+{
     let side = side_of(panel.order);
     let x = draw(step, product_and(purpose, 1, 2), side);
     let y = draw(step, product_and(purpose, 1, 3), side);
@@ -60,18 +71,17 @@ pub fn inside(panel: Panel, step: Step, purpose: u32) -> Pixel {
     }
 }
 
-fn wrapped(corner: u32, drawn: u32, crowd: u32, side: u32) -> u32 {
-    if crowd == 0 {
-        return corner;
-    }
-    if side == 0 {
-        return corner;
-    }
+fn wrapped(corner: u32, drawn: u32, crowd: u32, side: u32) -> u32
+    requires { ⌜ (0 < crowd) × (0 < side) ⌝ }
+    ensures { λ r. ⌜ r < side ⌝ }
+{
     product_and(drawn % crowd, 1, corner) % side
 }
 
 // A coordinate just past the panel, or any word past it.
-fn outside(panel: Panel, step: Step, purpose: u32) -> Pixel {
+fn outside(panel: Panel, step: Step, purpose: u32) -> Pixel
+    ensures { λ r. ⌜ (r .x ≡ 0) ⊎ (r .y ≡ 0) ⌝ }
+{
     let side = side_of(panel.order);
     let far = word_drawn(step, product_and(purpose, 1, 5)) | side;
     match draw(step, product_and(purpose, 1, 6), 4) {
@@ -82,13 +92,17 @@ fn outside(panel: Panel, step: Step, purpose: u32) -> Pixel {
     }
 }
 
-pub fn code_inside(panel: Panel, step: Step, purpose: u32) -> u32 {
+pub fn code_inside(panel: Panel, step: Step, purpose: u32) -> u32
+    ensures { λ r. ⌜ CodeInside (panel .order) r ⌝ }
+{
     let pixel = inside(panel, step, purpose);
     code_of(pixel.x, pixel.y)
 }
 
 // Two corners: the whole panel, one pixel, as they were drawn, or in order.
-pub fn window_drawn(panel: Panel, step: Step, purpose: u32, set: &[u32]) -> Window {
+pub fn window_drawn(panel: Panel, step: Step, purpose: u32, set: &[u32]) -> Window
+    ensures { λ r. ⌜ (r .x0 < 65536) ⊎ (r .y0 < 65536) ⌝ }
+{
     let a = pixel_drawn(panel, step, purpose, set);
     let b = pixel_drawn(panel, step, product_and(purpose, 1, 8), set);
     match draw(step, product_and(purpose, 1, 7), 8) {
@@ -99,7 +113,9 @@ pub fn window_drawn(panel: Panel, step: Step, purpose: u32, set: &[u32]) -> Wind
     }
 }
 
-pub fn whole(panel: Panel) -> Window {
+fn whole(panel: Panel) -> Window
+    ensures { λ r. ⌜ (r .x0 ≡ 0) × (r .y0 ≡ 0) × (r .x1 ≡ sideOf (panel .order) - 1) × (r .y1 ≡ sideOf (panel .order) - 1) ⌝ }
+{
     let side = side_of(panel.order);
     Window {
         x0: 0,
@@ -109,7 +125,9 @@ pub fn whole(panel: Panel) -> Window {
     }
 }
 
-fn corners(a: Pixel, b: Pixel) -> Window {
+fn corners(a: Pixel, b: Pixel) -> Window
+    ensures { λ r. ⌜ (r .x0 ≡ a .x) × (r .y0 ≡ a .y) ⌝ }
+{
     Window {
         x0: a.x,
         y0: a.y,
@@ -118,7 +136,9 @@ fn corners(a: Pixel, b: Pixel) -> Window {
     }
 }
 
-fn ordered(a: Pixel, b: Pixel) -> Window {
+fn ordered(a: Pixel, b: Pixel) -> Window
+    ensures { λ r. ⌜ (r .x0 ≤ a .x) × (r .y0 ≤ a .y) ⌝ }
+{
     Window {
         x0: lesser(a.x, b.x),
         y0: lesser(a.y, b.y),

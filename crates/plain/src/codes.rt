@@ -1,5 +1,5 @@
 // 01 "Panel, pixel, code", bit by bit.
-ghost use Prim.Native.Nat.{_+_, _*_, _/_, _^_, _<_};
+ghost use Prim.Native.Nat.{_+_, _*_, _/_, _^_, _≤_, _<_};
 ghost use mathlib.Core.Path.{_≡_};
 ghost use Rattle.plain.specs.Code.{bitAt, interleave, evenBits, Coordinate};
 ghost use Rattle.plain.specs.Block.{sideOf, LastCode, Quarter};
@@ -47,7 +47,7 @@ fn with_even_bit(x: u32, code: u32, i: u32) -> u32
 
 // A block of level i has side 2^i.
 pub fn side_of(level: u32) -> u32
-    ensures { λ r. ⌜ r ≡ sideOf level ⌝ }
+    ensures { λ r. ⌜ (r ≡ sideOf level) × (1 ≤ r) × (r ≤ 65536) ⌝ }
 {
     if 16 < level {
         return 1;
