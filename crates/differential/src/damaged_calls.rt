@@ -1,5 +1,7 @@
 // Mark, clear, ask, count, list and save on a damaged store.
+ghost use Prim.Native.Nat.{_<_};
 ghost use mathlib.Core.Path.{_≡_};
+ghost use mathlib.Core.Logic.{_⊎_};
 ghost use lib.ListN.{length};
 use crate::calls;
 use crate::steps::list_to;
@@ -34,13 +36,15 @@ use report::expect;
 // Stands for any answer that 01 leaves open.
 const OPEN: u32 = 99;
 
-// The refusal that 01 fixes; the arguments have this one of their own, 0 for none.
-pub fn fixed(store: &[u32], of_arguments: u32) -> u32 {
+// The refusal that 01 fixes; `own` is that of the arguments, 0 for none.
+pub fn fixed(store: &[u32], own: u32) -> u32
+    ensures { λ r. ⌜ (r ≡ 3) ⊎ ((0 < own) × (r ≡ own)) ⊎ ((own ≡ 0) × ((r ≡ 13) ⊎ (r ≡ 99))) ⌝ }
+{
     if unusable(store) {
         return 3;
     }
-    if of_arguments != 0 {
-        return of_arguments;
+    if own != 0 {
+        return own;
     }
     if all_ones(store, words_needed(panel_of(store))) {
         return 13;
@@ -49,7 +53,7 @@ pub fn fixed(store: &[u32], of_arguments: u32) -> u32 {
 }
 
 // Every word but the first four is FFFFFFFF.
-pub fn all_ones(store: &[u32], end: u32) -> bool {
+fn all_ones(store: &[u32], end: u32) -> bool {
     for i in 4..end {
         if word(store, i) != 4294967295 {
             return false;
@@ -88,7 +92,7 @@ fn permitted(got: Answer, one: u32, other: u32) -> Answer {
 }
 
 // The end of the words that the formula asks for, by the store as it was kept.
-pub fn end_kept(plain: &[u32]) -> u32 {
+fn end_kept(plain: &[u32]) -> u32 {
     words_needed(Panel {
         order: word(plain, STORE_KEPT + 1),
         k: word(plain, STORE_KEPT + 2),
@@ -96,13 +100,26 @@ pub fn end_kept(plain: &[u32]) -> u32 {
     })
 }
 
-// Mark and clear, when done or refused 13, leave the words past the formula's; 13 sets word 0 to zero. Else nothing changes.
-fn compare_changed(step: Step, call: u32, got: Answer, store: &[u32], plain: &mut [u32]) {
-    if got.number != 0 && got.number != 13 {
-        compare_store(step, call, store, 0, plain);
+// A call that changed the store leaves the words past the formula's; any other leaves them all.
+pub fn compare_kept(step: Step, call: u32, changed: bool, store: &[u32], plain: &mut [u32])
+    ensures { λ _. ⌜ length (now (plain .exit)) ≡ length (now (plain .entry)) ⌝ }
+{
+    if changed {
+        compare_store(step, call, store, end_kept(plain), plain);
         return;
     }
-    compare_store(step, call, store, end_kept(plain), plain);
+    compare_store(step, call, store, 0, plain);
+}
+
+// Mark and clear, when done or refused 13, leave the words past the formula's; 13 sets word 0 to zero. Else nothing changes.
+fn compare_changed(step: Step, call: u32, got: Answer, store: &[u32], plain: &mut [u32]) {
+    compare_kept(
+        step,
+        call,
+        got.number == 0 || got.number == 13,
+        store,
+        plain,
+    );
     if got.number == 13 {
         expect(
             step,

@@ -2,7 +2,7 @@
 ghost use mathlib.Core.Path.{_≡_};
 ghost use lib.ListN.{length};
 use crate::calls;
-use crate::damaged_calls::end_kept;
+use crate::damaged_calls::compare_kept;
 use crate::damaged_calls::fixed;
 use crate::loads::load_bytes;
 use crate::steps;
@@ -33,7 +33,7 @@ pub fn load(step: Step, store: &mut [u32], plain: &mut [u32])
     ensures { λ _. ⌜ (length (now (store .exit)) ≡ length (now (store .entry))) × (length (now (plain .exit)) ≡ length (now (plain .entry))) ⌝ }
 {
     let loaded = load_composed(step, store, plain);
-    compare_loaded(step, loaded, store, plain);
+    compare_kept(step, LOAD, loaded, store, plain);
     if !loaded {
         return;
     }
@@ -52,15 +52,6 @@ fn compose_for(store: &[u32], step: Step, plain: &[u32], bytes: &mut [u8]) -> u3
         return 0;
     }
     compose(panel_of(store), step, plain, bytes)
-}
-
-// A refusal changes nothing; else the words past the formula's stay.
-fn compare_loaded(step: Step, loaded: bool, store: &[u32], plain: &mut [u32]) {
-    if loaded {
-        compare_store(step, LOAD, store, end_kept(plain), plain);
-        return;
-    }
-    compare_store(step, LOAD, store, 0, plain);
 }
 
 // Some calls on a store that is sound again, then more damage.

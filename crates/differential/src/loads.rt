@@ -20,16 +20,18 @@ pub fn run(panel: Panel, step: Step, store: &mut [u32], plain: &mut [u32])
     load_bytes(panel, step, length, &bytes, store, plain);
 }
 
-// The first bytes, as many as `length`, are the image; true when it was loaded.
+// The first bytes, as many as `number`, are the image; true when it was loaded.
 pub fn load_bytes(
     panel: Panel,
     step: Step,
-    length: u32,
+    number: u32,
     bytes: &[u8],
     store: &mut [u32],
     plain: &mut [u32],
-) -> bool {
-    let end = place(length);
+) -> bool
+    ensures { λ _. ⌜ (length (now (store .exit)) ≡ length (now (store .entry))) × (length (now (plain .exit)) ≡ length (now (plain .entry))) ⌝ }
+{
+    let end = place(number);
     if bytes.len() < end {
         return false;
     }

@@ -39,7 +39,7 @@ use report::compare_words;
 use report::count_reached;
 use report::stopped;
 
-pub fn run(panel: Panel, step: Step, store: &mut [u32], plain: &mut [u32])
+fn run(panel: Panel, step: Step, store: &mut [u32], plain: &mut [u32])
     ensures { λ _. ⌜ (length (now (store .exit)) ≡ length (now (store .entry))) × (length (now (plain .exit)) ≡ length (now (plain .entry))) ⌝ }
 {
     if stopped(plain) {
@@ -162,8 +162,10 @@ fn list(panel: Panel, step: Step, store: &[u32], plain: &mut [u32]) {
     compare_words(step, LIST, &output, &wanted, 0, plain);
 }
 
-pub fn list_to(store: &[u32], seen: Window, length: u32, output: &mut [u32]) -> Answer {
-    let end = place(length);
+pub fn list_to(store: &[u32], seen: Window, words: u32, output: &mut [u32]) -> Answer
+    ensures { λ _. ⌜ length (now (output .exit)) ≡ length (now (output .entry)) ⌝ }
+{
+    let end = place(words);
     if output.len() < end {
         return refused(0);
     }
@@ -184,8 +186,10 @@ fn save(panel: Panel, step: Step, store: &[u32], plain: &mut [u32]) {
     }
 }
 
-pub fn save_to(store: &[u32], length: u32, output: &mut [u8]) -> Answer {
-    let end = place(length);
+pub fn save_to(store: &[u32], bytes: u32, output: &mut [u8]) -> Answer
+    ensures { λ _. ⌜ length (now (output .exit)) ≡ length (now (output .entry)) ⌝ }
+{
+    let end = place(bytes);
     if output.len() < end {
         return refused(0);
     }
