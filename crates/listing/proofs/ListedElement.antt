@@ -9,6 +9,7 @@ use lib.ListN.{length}
 use Rattle.pktree.specs.Elements.{empty, pixel, block}
 use Rattle.store.specs.Placed.{Placed, forestOf}
 use Rattle.store.proofs.BlockView.{ChildView}
+use Rattle.store.proofs.PassedElements.{OneElement, is-pixel, is-block}
 use Rattle.store.specs.declared.elements.Element.{Element}
 use Rattle.store.specs.declared.elements.Element.the-variants.{Pixel, Block}
 use Rattle.query.specs.declared.count.Look.{Look}
@@ -33,6 +34,14 @@ ListElementRight look words (Block s i c) level at opened before after r =
 pub record ElementListed (look : Look) (words : List ℕ) (element : Element) (level at opened : ℕ) (before after : List ℕ) (r : Counted) : Type 0 where
   pub long : length after ≡ length before
   pub right : ListElementRight look words element level at opened before after r
+
+-- whichever element it is
+pub element-wrote : {look : Look} {words : List ℕ} {k level code at opened : ℕ} {element : Element} {g : Placed} {before after : List ℕ} {r : Counted}
+    → ElementListed look words element level at opened before after r → OneElement k (look .layout .width) (look .layout .slots) words level code element g
+    → Ordered (windowBetween (look .corners)) → RoomFor look at opened (forestOf g) → at + foundIn (windowBetween (look .corners)) (forestOf g) ≤ length before
+    → Wrote look (forestOf g) at opened before after r
+element-wrote listed (is-pixel c) = listed .right
+element-wrote {code = code} listed (is-block s i c fs child) = listed .right _ code fs child
 
 module _ {look : Look} {words : List ℕ} {element : Element} {level n m : ℕ} {before : List ℕ} where
   listed-as : {e : Element} {after : List ℕ} {r : Counted} → element ≡ e → length after ≡ length before → ListElementRight look words e level n m before after r

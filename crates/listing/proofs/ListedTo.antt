@@ -3,7 +3,7 @@ use Prim.Native.Nat.{ℕ, suc, _+_, _≤_, _<_}
 use native.Mathlib.Omega.{arith}
 use native.Mathlib.Nat.{add-zero}
 use native.Mathlib.Numerals.{add-one}
-use mathlib.Core.Path.{_≡_, refl, ap₂, subst, sym, _∙_}
+use mathlib.Core.Path.{_≡_, refl, ap₂, sym, _∙_}
 use mathlib.Core.List.{List}
 use lib.ListN.{length}
 use Rattle.pktree.specs.Elements.{Forest, _⧺_}
@@ -11,10 +11,12 @@ use Rattle.pktree.specs.Tree.{pixels}
 use Rattle.pktree.specs.Window.{Window, found}
 use Rattle.pktree.proofs.Absurd.{zero-is-not-one}
 use Rattle.store.specs.Element.{elementAt}
-use Rattle.store.specs.Placed.{Placed, _⧻_, forestOf}
+use Rattle.store.specs.Placed.{Placed, forestOf}
 use Rattle.measures.specs.Slot.{slotPart}
 use Rattle.store.proofs.PlacedJoin.{forest-join}
 use Rattle.store.proofs.BlockView.{BlockView}
+use Rattle.store.proofs.OpenedSlot.{SlotOpened, opened-not-shut, view-opens}
+use Rattle.store.proofs.PassedElements.{Passed, none-passed, one-more-passed, all-passed}
 use Rattle.store.specs.declared.elements.Element.{Element}
 use Rattle.query.specs.declared.count.Look.{Look}
 use Rattle.query.specs.declared.count.Counted.{Counted}
@@ -23,9 +25,7 @@ use Rattle.store.specs.declared.opening.Opening.the-variants as opening
 use Rattle.query.specs.Corners.{windowBetween, Ordered}
 use Rattle.query.specs.Counting.{foundIn, CanCount, SlotOpening, RoomFor, SeenAtMost}
 use Rattle.listing.specs.Listing.{Wrote, ListMeets}
-use Rattle.listing.proofs.ListedElement.{ListElementRight, ElementListed}
-use Rattle.query.proofs.NextElement.{OneElement, is-pixel, is-block, Passed, none-passed, one-more-passed, all-passed}
-use Rattle.query.proofs.OpenedSlot.{SlotOpened, not-both, view-opens}
+use Rattle.listing.proofs.ListedElement.{ElementListed, element-wrote}
 use Rattle.query.proofs.WindowParts.{found-join}
 use Rattle.query.proofs.SeenParts.{seen-join, found-between, room-between}
 use Rattle.listing.proofs.WrittenAt.{written-none, written-join}
@@ -47,22 +47,6 @@ pub record ListedTo (look : Look) (words : List ℕ) (slot level code at opened 
       → RoomFor look at (suc opened) (forestOf es) → at + foundIn (windowBetween (look .corners)) (forestOf es) ≤ length before
       → Passed (λ f. Wrote look f at (suc opened) before after r) es i
 
--- an element's codes stand behind those of the elements before it
-one-more : (look : Look) (k : ℕ) (words : List ℕ) (level code : ℕ) (element : Element) (n m at opened : ℕ) (before mid after : List ℕ) (r : Counted) (es f g h : Placed)
-    → Ordered (windowBetween (look .corners)) → RoomFor look at opened (forestOf es) → at + foundIn (windowBetween (look .corners)) (forestOf es) ≤ length before
-    → length mid ≡ length before → ListElementRight look words element level n m mid after r
-    → es ≡ (f ⧻ g) ⧻ h → OneElement k (look .layout .width) (look .layout .slots) words level code element g
-    → Wrote look (forestOf f) at opened before mid (Seen n m) → Wrote look (forestOf (f ⧻ g)) at opened before after r
-one-more look k words level code element n m at opened before mid after r es f g h ordered room fits long right e is wf =
-    let rg : RoomFor look n m (forestOf g) = room-between look n m at opened es f g h e (wf .answer) room in
-    let fg = found-between (windowBetween (look .corners)) n m at opened (length before) es f g h e (wf .answer) fits in
-    rw (forest-join f g) (wrote-join look (forestOf f) (forestOf g) at opened n m before mid after r (omega arith) wf (answer g is rg (omega arith)))
-  where
-    answer : (g : Placed) → OneElement k (look .layout .width) (look .layout .slots) words level code element g
-        → RoomFor look n m (forestOf g) → n + foundIn (windowBetween (look .corners)) (forestOf g) ≤ length mid → Wrote look (forestOf g) n m mid after r
-    answer g (is-pixel c p) = subst (λ (x : Element). ListElementRight look words x level n m mid after r) p right ordered
-    answer g (is-block s i c fs p child) = subst (λ (x : Element). ListElementRight look words x level n m mid after r) p right k code fs child ordered
-
 module _ {look : Look} {words : List ℕ} {slot level code at opened : ℕ} {before : List ℕ} where
   pub listed-none : ListedTo look words slot level code at opened 0 before before (Seen at (opened + 1))
   listed-none =
@@ -71,18 +55,20 @@ module _ {look : Look} {words : List ℕ} {slot level code at opened : ℕ} {bef
             none-passed _ es (record { answer = rw (add-one opened, add-zero at, add-zero (suc opened)); output = sym (written-none before at) });
       }
 
+  -- an element's codes stand behind those of the elements before it
   pub listed-one : {count i n m : ℕ} {element : Element} {mid after : List ℕ} {r : Counted} → SlotOpened (look .layout .width) words slot level code count → i < count
       → ListedTo look words slot level code at opened i before mid (Seen n m) → length mid ≡ length before
       → element ≡ elementAt (slotPart (look .layout .width) words slot) i
       → ElementListed look words element level n m mid after r → ListedTo look words slot level code at opened (i + 1) before after r
-  listed-one {n = n} {m = m} {element = element} {mid = mid} {after = after} {r = r} opening below to long is listed =
+  listed-one {n = n} {m = m} {mid = mid} {after = after} {r = r} opening below to long is listed =
+      let w : Window = windowBetween (look .corners) in
       record {
         passed = λ k es view ordered room fits.
-            one-more-passed k (look .layout .width) (look .layout .slots) words slot level code es _ _ _ view
-            (omega (arith, opening .header .count-is, view .says .count-is))
-            (λ f g h e one wf.
-            one-more look k words level code element n m at (suc opened) before mid after r es f g h ordered room fits long (listed .right) e (rw is one) wf)
-            (to .passed k es view ordered room fits);
+            one-more-passed opening view (to .passed k es view ordered room fits) below (λ f g h e one wf.
+            let rg : RoomFor look n m (forestOf g) = room-between look n m at (suc opened) es f g h e (wf .answer) room in
+            let fg = found-between w n m at (suc opened) (length before) es f g h e (wf .answer) fits in
+            rw (forest-join f g) (wrote-join look (forestOf f) (forestOf g) at (suc opened) n m before mid after r (omega arith) wf
+            (element-wrote (rw is at listed) one ordered rg (omega arith))));
       }
 
   -- the ways out of the loop function
@@ -112,7 +98,7 @@ module _ {look : Look} {words : List ℕ} {slot level code at opened : ℕ} {bef
     all-wrote : (k : ℕ) (es : Placed) → BlockView k (look .layout .width) (look .layout .slots) words slot level code es → Ordered (windowBetween (look .corners))
         → RoomFor look at (suc opened) (forestOf es) → at + foundIn (windowBetween (look .corners)) (forestOf es) ≤ length before
         → Wrote look (forestOf es) at (suc opened) before after (Seen n m)
-    all-wrote k es view ordered room fits = all-passed _ es _ (omega (arith, o .header .count-is, view .says .count-is)) (to .passed k es view ordered room fits)
+    all-wrote k es view ordered room fits = all-passed o view (to .passed k es view ordered room fits) end
 
     pub all-listed : (r : Counted) → m ≤ look .layout .slots → SeenAtMost (look .most) n m r → ListMeets look words slot level code at opened before after r
     all-listed (Seen p q) few at-most =
@@ -122,7 +108,7 @@ module _ {look : Look} {words : List ℕ} {slot level code at opened : ℕ} {bef
           right = λ k es view ordered room fits.
               let w = all-wrote k es view ordered room fits in
               record { answer = ap₂ Seen (at-most .0) (at-most .1) ∙ w .answer; output = w .output };
-          closed = λ shut. absurd (not-both o shut);
+          closed = λ shut. absurd (opened-not-shut o shut);
         }
     all-listed Damaged few over =
         record {

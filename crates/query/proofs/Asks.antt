@@ -15,6 +15,7 @@ use Rattle.measures.specs.declared.sizes.Layout.{Layout}
 use Rattle.measures.specs.Sizes.{panelOf, slotWidth, sizesOf, UsableStore}
 use Rattle.measures.specs.Layout.{layoutOf, LaidOut}
 use Rattle.measures.specs.Slot.{slotPart, countWord}
+use Rattle.measures.proofs.Usable.{layout-said}
 use Rattle.store.specs.Opening.{HeaderSays, CannotOpen}
 use Rattle.store.specs.Placed.{forestOf}
 use Rattle.descent.specs.declared.Located.{Located}
@@ -26,7 +27,7 @@ use Rattle.query.specs.Asking.{AskAnswer}
 module _ (words : List ℕ) (code : ℕ) (sizes : Sizes) (layout : Layout) (slots places : List ℕ) (r : Located) (usable : UsableStore words) (sizes-are : sizes ≡ sizesOf words) (laid : LaidOut sizes layout)
     (on : OnPanel (panelOf sizes) code) (m : LocateMeets words layout (sizes .order) code slots places r) where
   layout-is : layout ≡ layoutOf (sizesOf words)
-  layout-is = laid .is ∙ ap layoutOf sizes-are
+  layout-is = layout-said words sizes-are laid
 
   order-is : sizes .order ≡ getD words 1 0
   order-is = ap (λ (s : Sizes). s .order) sizes-are

@@ -8,6 +8,7 @@ use mathlib.Core.List.{List}
 use Rattle.pktree.specs.Elements.{empty, pixel, block}
 use Rattle.store.specs.Placed.{Placed, forestOf}
 use Rattle.store.proofs.BlockView.{ChildView}
+use Rattle.store.proofs.PassedElements.{OneElement, is-pixel, is-block}
 use Rattle.store.specs.declared.elements.Element.{Element}
 use Rattle.store.specs.declared.elements.Element.the-variants.{Pixel, Block}
 use Rattle.query.specs.declared.count.Look.{Look}
@@ -27,6 +28,13 @@ ElementRight look words (Block s i c) level found opened r =
 
 pub record ElementAnswered (look : Look) (words : List ℕ) (element : Element) (level found opened : ℕ) (r : Counted) : Type 0 where
   pub right : ElementRight look words element level found opened r
+
+-- whichever element it is
+pub element-seen : {look : Look} {words : List ℕ} {k level code n m : ℕ} {element : Element} {g : Placed} {r : Counted} → ElementAnswered look words element level n m r
+    → OneElement k (look .layout .width) (look .layout .slots) words level code element g → Ordered (windowBetween (look .corners)) → RoomFor look n m (forestOf g)
+    → r ≡ seen (windowBetween (look .corners)) n m (forestOf g)
+element-seen answered (is-pixel c) = answered .right
+element-seen {code = code} answered (is-block s i c fs child) = answered .right _ code fs child
 
 module _ {look : Look} {words : List ℕ} {element : Element} {level n m : ℕ} where
   answered-as : {e : Element} {r : Counted} → element ≡ e → ElementRight look words e level n m r → ElementAnswered look words element level n m r

@@ -3,15 +3,17 @@ use Prim.Native.Nat.{ℕ, suc, _+_, _≤_, _<_}
 use native.Mathlib.Omega.{arith}
 use native.Mathlib.Nat.{add-zero}
 use native.Mathlib.Numerals.{add-one}
-use mathlib.Core.Path.{_≡_, refl, ap, ap₂, subst, sym, _∙_}
+use mathlib.Core.Path.{_≡_, refl, ap, ap₂, sym, _∙_}
 use mathlib.Core.List.{List}
 use Rattle.pktree.specs.Window.{Window}
 use Rattle.pktree.proofs.Absurd.{zero-is-not-one}
 use Rattle.store.specs.Element.{elementAt}
-use Rattle.store.specs.Placed.{Placed, _⧻_, forestOf}
+use Rattle.store.specs.Placed.{Placed, forestOf}
 use Rattle.measures.specs.Slot.{slotPart}
 use Rattle.store.proofs.PlacedJoin.{forest-join}
 use Rattle.store.proofs.BlockView.{BlockView}
+use Rattle.store.proofs.OpenedSlot.{SlotOpened, opened-not-shut, view-opens}
+use Rattle.store.proofs.PassedElements.{Passed, none-passed, one-more-passed, all-passed}
 use Rattle.store.specs.declared.elements.Element.{Element}
 use Rattle.store.specs.declared.opening.Opening.the-variants as opening
 use Rattle.query.specs.declared.count.Look.{Look}
@@ -19,9 +21,7 @@ use Rattle.query.specs.declared.count.Counted.{Counted}
 use Rattle.query.specs.declared.count.Counted.the-variants.{Seen, Damaged}
 use Rattle.query.specs.Corners.{windowBetween, Ordered}
 use Rattle.query.specs.Counting.{foundIn, CanCount, SlotOpening, seen, RoomFor, SeenAtMost, CountMeets}
-use Rattle.query.proofs.CountedElement.{ElementRight, ElementAnswered}
-use Rattle.query.proofs.NextElement.{OneElement, is-pixel, is-block, Passed, none-passed, one-more-passed, all-passed}
-use Rattle.query.proofs.OpenedSlot.{SlotOpened, not-both, view-opens}
+use Rattle.query.proofs.CountedElement.{ElementAnswered, element-seen}
 use Rattle.query.proofs.SeenParts.{seen-join, room-between}
 
 -- the answer for the block itself and its first i elements
@@ -29,35 +29,21 @@ pub record CountedTo (look : Look) (words : List ℕ) (slot level code found ope
   pub passed : (k : ℕ) (es : Placed) → BlockView k (look .layout .width) (look .layout .slots) words slot level code es → Ordered (windowBetween (look .corners))
       → RoomFor look found (suc opened) (forestOf es) → Passed (λ f. r ≡ seen (windowBetween (look .corners)) found (suc opened) f) es i
 
--- an element's answer goes on from the numbers of those before it
-one-more : (look : Look) (k : ℕ) (words : List ℕ) (level code : ℕ) (element : Element) (n m n₀ m₀ : ℕ) (r : Counted) (es f g h : Placed)
-    → Ordered (windowBetween (look .corners)) → RoomFor look n₀ m₀ (forestOf es) → ElementRight look words element level n m r
-    → es ≡ (f ⧻ g) ⧻ h → OneElement k (look .layout .width) (look .layout .slots) words level code element g
-    → Seen n m ≡ seen (windowBetween (look .corners)) n₀ m₀ (forestOf f) → r ≡ seen (windowBetween (look .corners)) n₀ m₀ (forestOf (f ⧻ g))
-one-more look k words level code element n m n₀ m₀ r es f g h ordered room right e is past =
-    answer g is (room-between look n m n₀ m₀ es f g h e past room) ∙ seen-join w n m n₀ m₀ (forestOf f) (forestOf g) past ∙ ap (seen w n₀ m₀) (sym (forest-join f g))
-  where
-    w : Window
-    w = windowBetween (look .corners)
-
-    answer : (g : Placed) → OneElement k (look .layout .width) (look .layout .slots) words level code element g → RoomFor look n m (forestOf g) → r ≡ seen w n m (forestOf g)
-    answer g (is-pixel c p) = subst (λ (x : Element). ElementRight look words x level n m r) p right ordered
-    answer g (is-block s i c fs p child) = subst (λ (x : Element). ElementRight look words x level n m r) p right k code fs child ordered
-
 module _ {look : Look} {words : List ℕ} {slot level code found opened : ℕ} where
   pub counted-none : CountedTo look words slot level code found opened 0 (Seen found (opened + 1))
   counted-none = record { passed = λ k es view ordered room. none-passed _ es (rw (add-one opened, add-zero found, add-zero (suc opened))) }
 
+  -- an element's answer goes on from the numbers of those before it
   pub counted-one : {count i n m : ℕ} {element : Element} {r : Counted} → SlotOpened (look .layout .width) words slot level code count → i < count
       → CountedTo look words slot level code found opened i (Seen n m) → element ≡ elementAt (slotPart (look .layout .width) words slot) i
       → ElementAnswered look words element level n m r → CountedTo look words slot level code found opened (i + 1) r
-  counted-one {n = n} {m = m} {element = element} {r = r} opening below to is answered =
+  counted-one {n = n} {m = m} opening below to is answered =
+      let w : Window = windowBetween (look .corners) in
       record {
         passed = λ k es view ordered room.
-            one-more-passed k (look .layout .width) (look .layout .slots) words slot level code es _ _ _ view
-            (omega (arith, opening .header .count-is, view .says .count-is))
-            (λ f g h e one done. one-more look k words level code element n m found (suc opened) r es f g h ordered room (answered .right) e (rw is one) done)
-            (to .passed k es view ordered room);
+            one-more-passed opening view (to .passed k es view ordered room) below (λ f g h e one past.
+            element-seen (rw is at answered) one ordered (room-between look n m found (suc opened) es f g h e past room)
+            ∙ seen-join w n m found (suc opened) (forestOf f) (forestOf g) past ∙ ap (seen w found (suc opened)) (sym (forest-join f g)));
       }
 
   -- the ways out of the loop function
@@ -83,7 +69,7 @@ module _ {look : Look} {words : List ℕ} {slot level code found opened : ℕ} w
       (to : CountedTo look words slot level code found opened i (Seen n m)) where
     all-seen : (k : ℕ) (es : Placed) → BlockView k (look .layout .width) (look .layout .slots) words slot level code es → Ordered (windowBetween (look .corners))
         → RoomFor look found (suc opened) (forestOf es) → Seen n m ≡ seen (windowBetween (look .corners)) found (suc opened) (forestOf es)
-    all-seen k es view ordered room = all-passed _ es _ (omega (arith, o .header .count-is, view .says .count-is)) (to .passed k es view ordered room)
+    all-seen k es view ordered room = all-passed o view (to .passed k es view ordered room) end
 
     -- the number found is held against the most pixels at the end of a block
     pub all-counted : (r : Counted) → m ≤ look .layout .slots → SeenAtMost (look .most) n m r → CountMeets look words slot level code found opened r
@@ -91,7 +77,7 @@ module _ {look : Look} {words : List ℕ} {slot level code found opened : ℕ} w
         record {
           bounds = omega (arith, at-most);
           right = λ k es view ordered room. ap₂ Seen (at-most .0) (at-most .1) ∙ all-seen k es view ordered room;
-          closed = λ shut. absurd (not-both o shut);
+          closed = λ shut. absurd (opened-not-shut o shut);
         }
     all-counted Damaged few over =
         record {

@@ -1,7 +1,5 @@
 pub mod WindowTests
 pub mod WindowParts
-pub mod NextElement
-pub mod OpenedSlot
 pub mod SeenParts
 pub mod CountedTo
 pub mod CountedElement

@@ -10,8 +10,8 @@ use Rattle.pktree.specs.Elements.{Forest, empty, pixel, block, _⧺_}
 use Rattle.pktree.specs.Tree.{blockOf, pixels}
 use Rattle.pktree.specs.Window.{Window, inWindow, found, sharesPixel, openedByWindow}
 use Rattle.store.specs.Placed.{Placed, _⧻_, forestOf}
-use Rattle.store.proofs.PlacedJoin.{forest-join}
 use Rattle.store.proofs.BlockView.{ChildView}
+use Rattle.store.proofs.PassedElements.{between}
 use Rattle.query.specs.declared.count.Look.{Look}
 use Rattle.query.specs.declared.count.Counted.the-variants.{Seen}
 use Rattle.query.specs.Corners.{windowBetween, cornersMeet, Ordered}
@@ -56,13 +56,7 @@ seen-join window n m n₀ m₀ f g e =
     let q : m ≡ m₀ + openedByWindow window f = cc in
     rw (p, q, found-in-join window f g, opened-join window f g, add-assoc, add-assoc)
 
--- what is enough for all elements is enough for those in the middle, after those before them
-between : (count : Forest → ℕ) → ((f g : Forest) → count (f ⧺ g) ≡ count f + count g) → (es f g h : Placed) → es ≡ (f ⧻ g) ⧻ h
-    → count (forestOf f) + count (forestOf g) ≤ count (forestOf es)
-between count join es f g h e =
-    let d : forestOf es ≡ (forestOf f ⧺ forestOf g) ⧺ forestOf h = ap forestOf e ∙ forest-join (f ⧻ g) h ∙ ap (λ (a : Forest). a ⧺ forestOf h) (forest-join f g) in
-    omega (arith, ap count d, join (forestOf f ⧺ forestOf g) (forestOf h), join (forestOf f) (forestOf g))
-
+-- what is enough for all elements is enough for those in the middle
 module _ (window : Window) (n m n₀ m₀ limit : ℕ) (es f g h : Placed) (e : es ≡ (f ⧻ g) ⧻ h) (past : Seen n m ≡ seen window n₀ m₀ (forestOf f)) where
   pub found-between : n₀ + foundIn window (forestOf es) ≤ limit → n + foundIn window (forestOf g) ≤ limit
   found-between r =

@@ -10,9 +10,10 @@ use Rattle.pktree.proofs.Absurd.{zero-is-not-one}
 use Rattle.pktree.proofs.Forests.{length-blocks}
 use Rattle.measures.specs.declared.sizes.Layout.{Layout}
 use Rattle.measures.specs.declared.sizes.Sizes.{Sizes}
-use Rattle.measures.specs.Layout.{layoutOf, LayoutFits, LaidOut}
+use Rattle.measures.specs.Layout.{layoutOf, LaidOut}
 use Rattle.store.specs.Placed.{forestOf}
-use Rattle.measures.specs.Sizes.{sizesOf, UsableStore}
+use Rattle.measures.specs.Sizes.{sizesOf}
+use Rattle.measures.proofs.Usable.{layout-said}
 use Rattle.store.specs.Sound.{Holds}
 use Rattle.store.proofs.BlockView.{root-view}
 use Rattle.store.proofs.SoundView.{sound-view}
@@ -33,32 +34,24 @@ root-tallied {words} {set} holds meets =
     meets .right (getD words 2 0) es (root-view words (holds .placed) es (holds .sound) v) (omega (arith, v .few))
     ∙ ap tally.Blocks (omega (arith, length-blocks root, ap (λ (f : Forest). length (blocks f)) is))
 
--- the layout is the one that the store's own words say
-pub layout-said : (words : List ℕ) {sizes : Sizes} {layout : Layout} → sizes ≡ sizesOf words → LaidOut sizes layout → layout ≡ layoutOf (sizesOf words)
-layout-said words said laid = laid .is ∙ ap layoutOf said
+module _ {words : List ℕ} {sizes : Sizes} {layout : Layout} (said : sizes ≡ sizesOf words) (laid : LaidOut sizes layout) {r : Tally}
+    (meets : TallyMeets layout words 0 (sizes .order) 0 0 r) where
+  from-root : TallyMeets (layoutOf (sizesOf words)) words 0 (getD words 1 0) 0 0 r
+  from-root = subst₂ (λ (l : Layout) (s : Sizes). TallyMeets l words 0 (s .order) 0 0 r) (layout-said words said laid) said meets
 
-module _ {words : List ℕ} {sizes : Sizes} {layout : Layout} (said : sizes ≡ sizesOf words) (laid : LaidOut sizes layout) where
-  -- the store is long enough for it
-  pub layout-fits : UsableStore words → LayoutFits layout words
-  layout-fits usable = record { within = laid .within; lies = rw (layout-said words said laid) (usable .enough) }
+  -- the blocks of a sound store are counted
+  pub not-tallied : r ≡ tally.Damaged → NumbersAnswer words Damaged
+  not-tallied e =
+      record { bounds = tt; sound = λ set holds. zero-is-not-one (cc (e, root-tallied holds from-root)); closed = λ shut. refl }
 
-  module _ {r : Tally} (meets : TallyMeets layout words 0 (sizes .order) 0 0 r) where
-    from-root : TallyMeets (layoutOf (sizesOf words)) words 0 (getD words 1 0) 0 0 r
-    from-root = subst₂ (λ (l : Layout) (s : Sizes). TallyMeets l words 0 (s .order) 0 0 r) (layout-said words said laid) said meets
-
-    -- the blocks of a sound store are counted
-    pub not-tallied : r ≡ tally.Damaged → NumbersAnswer words Damaged
-    not-tallied e =
-        record { bounds = tt; sound = λ set holds. zero-is-not-one (cc (e, root-tallied holds from-root)); closed = λ shut. refl }
-
-    -- word 6 and the walk say the numbers
-    pub numbers-said : {n : ℕ} → r ≡ tally.Blocks n → getD words 6 0 ≤ sizes .most → NumbersAnswer words (Said (getD words 6 0) n)
-    numbers-said {n} e few =
-        record {
-          bounds = (omega (arith, ap (λ (s : Sizes). s .most) said), rw e at (from-root .bounds));
-          sound = λ set holds. ap₂ Said (holds .sound .counted ∙ ap length (holds .set-is)) (cc (e, root-tallied holds from-root));
-          closed = λ shut. zero-is-not-one (cc (e, from-root .closed shut));
-        }
+  -- word 6 and the walk say the numbers
+  pub numbers-said : {n : ℕ} → r ≡ tally.Blocks n → getD words 6 0 ≤ sizes .most → NumbersAnswer words (Said (getD words 6 0) n)
+  numbers-said {n} e few =
+      record {
+        bounds = (omega (arith, ap (λ (s : Sizes). s .most) said), rw e at (from-root .bounds));
+        sound = λ set holds. ap₂ Said (holds .sound .counted ∙ ap length (holds .set-is)) (cc (e, root-tallied holds from-root));
+        closed = λ shut. zero-is-not-one (cc (e, from-root .closed shut));
+      }
 
 -- a sound store has no more pixels than N
 pub too-many : {words : List ℕ} {sizes : Sizes} → sizes ≡ sizesOf words → sizes .most < getD words 6 0 → NumbersAnswer words Damaged

@@ -14,6 +14,7 @@ use Rattle.measures.specs.declared.sizes.Layout.{Layout}
 use Rattle.measures.specs.Layout.{LaidOut}
 use Rattle.store.specs.Opening.{CannotOpen}
 use Rattle.measures.specs.Sizes.{panelOf, slotWidth, UsableStore, sizesOf}
+use Rattle.measures.proofs.Usable.{sizes-valid, layout-said, layout-fits}
 use Rattle.store.specs.Sound.{Holds}
 use Rattle.saving.specs.declared.numbers.Numbers.{Numbers}
 use Rattle.saving.specs.declared.numbers.Numbers.the-variants.{Said, Damaged}
@@ -23,8 +24,6 @@ use Rattle.saving.specs.declared.Imaged.the-variants.{Whole, TooShort, U
 use Rattle.saving.specs.Numbers.{NumbersAnswer}
 use Rattle.saving.specs.Saving.{CanSave, EntriesPut, HeaderPut, SaveMeets, mostBytes, SaveAnswer}
 use Rattle.saving.proofs.EntryWrites.{length-headed}
-use Rattle.query.proofs.RootLook.{sizes-valid}
-use Rattle.saving.proofs.SaidNumbers.{layout-said, layout-fits}
 use Rattle.saving.proofs.SavedImage.{heldTree, entries-counted, rootSaving, root-saved, image-put}
 
 -- the walk may start at the root
@@ -32,7 +31,7 @@ pub can-save : {words output : List ℕ} {sizes : Sizes} {layout : Layout} {e : 
     → CanSave (record { layout = layout; entries = e }) words 0 (sizes .order) output 0
 can-save usable said laid long =
     record {
-      fits = layout-fits said laid usable;
+      fits = layout-fits _ _ _ usable said laid;
       slot-below = laid .within .slots-from;
       level-to = sizes-valid usable said .panel .order-to;
       long = long;

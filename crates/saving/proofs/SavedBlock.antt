@@ -14,7 +14,7 @@ use Rattle.saving.specs.declared.Saving.{Saving}
 use Rattle.saving.specs.declared.Saved.{Saved}
 use Rattle.saving.specs.declared.Saved.the-variants.{Next, Damaged}
 use Rattle.saving.specs.Saving.{putEntry, PixelPut, SaveMeets, SaveElementMeets}
-use Rattle.query.proofs.OpenedSlot.{SlotOpened, SlotShut, not-both, view-opens}
+use Rattle.store.proofs.OpenedSlot.{SlotOpened, SlotShut, opened-not-shut, view-opens}
 use Rattle.saving.proofs.EntryWrites.{length-put-entry}
 use Rattle.saving.proofs.SavedTo.{own-entry-first, SavedTo, saved-all, saved-damaged}
 
@@ -57,7 +57,7 @@ module _ {saving : Saving} {words : List ℕ} {slot level code : ℕ} {output : 
           long = after-own-entry (saving .entries) at output own after level code put long;
           right = λ k es view room.
               own-entry-first (rw put at (saved-all o end to k es view (block-room level code at (saving .entries) (forestOf es) room)));
-          closed = λ shut. absurd (not-both o shut);
+          closed = λ shut. absurd (opened-not-shut o shut);
         }
 
 module _ {saving : Saving} {words : List ℕ} {level : ℕ} {output : List ℕ} {at : ℕ} where

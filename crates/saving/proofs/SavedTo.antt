@@ -2,7 +2,7 @@
 use Prim.Native.Nat.{ℕ, _+_, _≤_, _<_}
 use native.Mathlib.Omega.{arith}
 use native.Mathlib.Numerals.{add-one}
-use mathlib.Core.Path.{_≡_, refl, ap, subst, _∙_}
+use mathlib.Core.Path.{_≡_, refl, ap, _∙_}
 use mathlib.Core.List.{List, [], append-nil}
 use lib.ListN.{length, length-append}
 use Rattle.pktree.specs.Elements.{Forest, empty, block, _⧺_}
@@ -11,15 +11,15 @@ use Rattle.pktree.proofs.Absurd.{zero-is-not-one}
 use Rattle.store.specs.declared.elements.Element.{Element}
 use Rattle.measures.specs.Slot.{slotPart}
 use Rattle.store.specs.Element.{elementAt}
-use Rattle.store.specs.Placed.{Placed, _⧻_, forestOf}
+use Rattle.store.specs.Placed.{Placed, forestOf}
 use Rattle.store.proofs.PlacedJoin.{forest-join}
 use Rattle.store.proofs.BlockView.{BlockView}
+use Rattle.store.proofs.OpenedSlot.{SlotOpened}
+use Rattle.store.proofs.PassedElements.{OneElement, is-pixel, is-block, Passed, none-passed, between, one-more-passed, all-passed}
 use Rattle.saving.specs.declared.Saving.{Saving}
 use Rattle.saving.specs.declared.Saved.{Saved}
 use Rattle.saving.specs.declared.Saved.the-variants.{Next, Damaged}
-use Rattle.saving.specs.Saving.{putEntry, EntriesPut, SaveElementRight}
-use Rattle.query.proofs.NextElement.{OneElement, is-pixel, is-block, Passed, none-passed, one-more-passed, all-passed}
-use Rattle.query.proofs.OpenedSlot.{SlotOpened}
+use Rattle.saving.specs.Saving.{putEntry, EntriesPut, SaveElementMeets}
 use Rattle.pktree.proofs.EntryOrder.{entries-join}
 use Rattle.saving.proofs.EntryWrites.{put-entries-append}
 
@@ -32,13 +32,17 @@ own-entry-first {f = f} {at = at} h =
       output = h .output ∙ rw (append-nil (entries f), add-one at);
     }
 
+-- the entries of both parts
+length-entries-join : (f g : Forest) → length (entries (f ⧺ g)) ≡ length (entries f) + length (entries g)
+length-entries-join f g = rw (entries-join f g) (length-append (entries f) (entries g))
+
 -- elements, then those after them
 entries-put-join : {saving : Saving} {f g : Forest} {before middle after : List ℕ} {at next : ℕ} {r : Saved}
     → EntriesPut saving f before middle at (Next next) → EntriesPut saving g middle after next r → EntriesPut saving (f ⧺ g) before after at r
 entries-put-join {saving} {f} {g} {before} {at = at} {next = next} p q =
     let e : next ≡ at + length (entries f) = cc (p .answer) in
     record {
-      answer = q .answer ∙ ap Next (omega (arith, ap length (entries-join f g), length-append (entries f) (entries g)));
+      answer = q .answer ∙ ap Next (omega (arith, length-entries-join f g));
       output = rw (entries-join f g, put-entries-append (saving .entries) at before (entries f) (entries g), ← p .output, ← e) (q .output);
     }
 
@@ -47,41 +51,29 @@ pub record SavedTo (saving : Saving) (words : List ℕ) (slot level code : ℕ) 
   pub passed : (k : ℕ) (es : Placed) → BlockView k (saving .layout .width) (saving .layout .slots) words slot level code es
       → at + length (entries (forestOf es)) ≤ saving .entries → Passed (λ f. EntriesPut saving f before after at r) es i
 
--- the entries of both parts
-length-entries-join : (a b : Placed) → length (entries (forestOf (a ⧻ b))) ≡ length (entries (forestOf a)) + length (entries (forestOf b))
-length-entries-join a b = rw (forest-join a b, entries-join (forestOf a) (forestOf b), length-append (entries (forestOf a)) (entries (forestOf b)))
-
--- an element's entries go on after those of the elements before it
-one-more : (saving : Saving) (k : ℕ) (words : List ℕ) (level code : ℕ) (element : Element) (before middle after : List ℕ) (at next : ℕ) (r : Saved) (es f g h : Placed)
-    → at + length (entries (forestOf es)) ≤ saving .entries → SaveElementRight saving words element level middle after next r
-    → es ≡ (f ⧻ g) ⧻ h → OneElement k (saving .layout .width) (saving .layout .slots) words level code element g
-    → EntriesPut saving (forestOf f) before middle at (Next next) → EntriesPut saving (forestOf (f ⧻ g)) before after at r
-one-more saving k words level code element before middle after at next r es f g h room right e is done =
-    let next-is : next ≡ at + length (entries (forestOf f)) = cc (done .answer) in
-    let all : length (entries (forestOf es)) ≡ length (entries (forestOf f)) + length (entries (forestOf g)) + length (entries (forestOf h)) =
-    rw (e, length-entries-join (f ⧻ g) h, length-entries-join f g) in
-    rw (forest-join f g) (entries-put-join done (put g is (omega arith)))
-  where
-    put : (g : Placed) → OneElement k (saving .layout .width) (saving .layout .slots) words level code element g
-        → next + length (entries (forestOf g)) ≤ saving .entries → EntriesPut saving (forestOf g) middle after next r
-    put g (is-pixel c p) = subst (λ (x : Element). SaveElementRight saving words x level middle after next r) p right
-    put g (is-block s i c fs p child) = subst (λ (x : Element). SaveElementRight saving words x level middle after next r) p right k code fs child
+-- the entries of an element, whichever it is
+element-entries : {saving : Saving} {words : List ℕ} {k level code : ℕ} {element : Element} {g : Placed} {before after : List ℕ} {at : ℕ} {r : Saved}
+    → SaveElementMeets saving words element level before after at r → OneElement k (saving .layout .width) (saving .layout .slots) words level code element g
+    → at + length (entries (forestOf g)) ≤ saving .entries → EntriesPut saving (forestOf g) before after at r
+element-entries meets (is-pixel c) = meets .right
+element-entries {code = code} meets (is-block s i c fs child) = meets .right _ code fs child
 
 module _ {saving : Saving} {words : List ℕ} {slot level code : ℕ} {before : List ℕ} {at : ℕ} where
   -- at the start nothing is written
   pub saved-none : SavedTo saving words slot level code before before at 0 (Next at)
   saved-none = record { passed = λ k es view room. none-passed _ es (record { answer = ap Next (omega arith); output = refl }) }
 
-  -- a turn of the loop writes one element's entries
+  -- a turn of the loop writes one element's entries, after those of the elements before it
   pub saved-one : {middle after : List ℕ} {count next i : ℕ} {r : Saved} → SlotOpened (saving .layout .width) words slot level code count → i < count
       → SavedTo saving words slot level code before middle at i (Next next)
-      → SaveElementRight saving words (elementAt (slotPart (saving .layout .width) words slot) i) level middle after next r
+      → SaveElementMeets saving words (elementAt (slotPart (saving .layout .width) words slot) i) level middle after next r
       → SavedTo saving words slot level code before after at (i + 1) r
-  saved-one {middle} {after} {next = next} {r = r} o below to right =
+  saved-one {next = next} o below to meets =
       record {
         passed = λ k es view room.
-            one-more-passed k (saving .layout .width) (saving .layout .slots) words slot level code es _ _ _ view (omega (arith, o .header .count-is, view .says .count-is))
-            (λ f g h e is done. one-more saving k words level code _ before middle after at next r es f g h room right e is done) (to .passed k es view room);
+            one-more-passed o view (to .passed k es view room) below (λ f g h e is done.
+            let next-is : next ≡ at + length (entries (forestOf f)) = cc (done .answer) in
+            rw (forest-join f g) (entries-put-join done (element-entries meets is (omega (arith, between (λ f. length (entries f)) length-entries-join es f g h e)))));
       }
 
   -- at the end all elements are passed
@@ -90,7 +82,7 @@ module _ {saving : Saving} {words : List ℕ} {slot level code : ℕ} {before : 
       → (k : ℕ) (es : Placed) → BlockView k (saving .layout .width) (saving .layout .slots) words slot level code es
       → at + length (entries (forestOf es)) ≤ saving .entries → EntriesPut saving (forestOf es) before after at r
   saved-all o end to k es view room =
-      all-passed _ es _ (omega (arith, o .header .count-is, view .says .count-is)) (to .passed k es view room)
+      all-passed o view (to .passed k es view room) end
 
   -- an element that is found damaged is none of a sound store
   pub saved-damaged : {after : List ℕ} {i : ℕ} → SavedTo saving words slot level code before after at i Damaged

@@ -10,7 +10,7 @@ use Rattle.measures.specs.Layout.{LayoutFits}
 use Rattle.saving.specs.declared.numbers.Tally.{Tally}
 use Rattle.saving.specs.declared.numbers.Tally.the-variants.{Blocks, Damaged}
 use Rattle.saving.specs.Tally.{TallyMeets, TallyElementMeets}
-use Rattle.query.proofs.OpenedSlot.{SlotOpened, SlotShut, not-both, view-opens}
+use Rattle.store.proofs.OpenedSlot.{SlotOpened, SlotShut, opened-not-shut, view-opens}
 use Rattle.saving.proofs.TalliedTo.{TalliedTo, tallied-all, tallied-damaged}
 
 module _ {layout : Layout} {words : List ℕ} {slot level code opened : ℕ} where
@@ -33,7 +33,7 @@ module _ {layout : Layout} {words : List ℕ} {slot level code opened : ℕ} whe
       record {
         bounds = bound;
         right = λ k es view room. tallied-all view (omega arith) o end to ∙ ap Blocks (omega arith);
-        closed = λ shut. absurd (not-both o shut);
+        closed = λ shut. absurd (opened-not-shut o shut);
       }
 
 module _ {layout : Layout} {words : List ℕ} {level opened : ℕ} where

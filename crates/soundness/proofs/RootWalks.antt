@@ -1,7 +1,7 @@
 -- The root of a store as the walk is given it, and the root of a sound store as the walk finds it.
 use Prim.Native.Nat.{ℕ, suc, _-_, _≤_, _<_}
 use native.Mathlib.Omega.{arith}
-use mathlib.Core.Path.{_≡_, ap, subst₂, _∙_}
+use mathlib.Core.Path.{_≡_, ap, subst₂}
 use mathlib.Core.Bool.{true}
 use mathlib.Core.List.{List, append-nil}
 use lib.ListN.{length, getD}
@@ -11,8 +11,9 @@ use Rattle.pktree.proofs.Arranged.{LocallyRight}
 use Rattle.pktree.proofs.LocalTest.{heads, slotTest, insideTest, localTest, local-test-exact, both}
 use Rattle.measures.specs.declared.sizes.Layout.{Layout}
 use Rattle.measures.specs.declared.sizes.Sizes.{Sizes}
-use Rattle.measures.specs.Sizes.{sizesOf, slotCount, ValidSizes, UsableStore}
+use Rattle.measures.specs.Sizes.{sizesOf, slotCount, UsableStore}
 use Rattle.measures.specs.Layout.{layoutOf, LaidOut}
+use Rattle.measures.proofs.Usable.{sizes-valid, layout-said, layout-fits}
 use Rattle.store.specs.Placed.{Placed, nothing, blockThen, forestOf}
 use Rattle.store.specs.Sound.{Sound}
 use Rattle.store.proofs.SoundView.{sound-view}
@@ -34,16 +35,13 @@ noneSeen = record { blocks = 0; pixels = 0 }
 abbrev pub rootLimits : List ℕ → Limits
 rootLimits words = limitsOf (layoutOf (sizesOf words)) (sizesOf words)
 
-pub sizes-valid : {words : List ℕ} {sizes : Sizes} → UsableStore words → sizes ≡ sizesOf words → ValidSizes sizes
-sizes-valid usable said = rw said (usable .valid)
-
 pub can-start : {words : List ℕ} {sizes : Sizes} {layout : Layout} → UsableStore words → sizes ≡ sizesOf words → LaidOut sizes layout
     → CanWalk (limitsOf layout sizes) words (rootClaim sizes) noneSeen
 can-start usable said laid =
     let valid = sizes-valid usable said in
     record {
       can = record {
-        fits = record { within = laid .within; lies = rw (laid .is, said) (usable .enough) };
+        fits = layout-fits _ _ _ usable said laid;
         k-from = omega (arith, valid .panel .k-from);
         k-to = valid .panel .k-to;
         most-to = valid .most-to;
@@ -57,11 +55,11 @@ can-start usable said laid =
 -- what is learnt of the code's sizes and layout is learnt of the words' own
 pub of-words : {sizes : Sizes} {layout : Layout} (words : List ℕ) (P : Layout → Sizes → Type 0) → sizes ≡ sizesOf words → LaidOut sizes layout → P layout sizes
     → P (layoutOf (sizesOf words)) (sizesOf words)
-of-words words P said laid = subst₂ P (laid .is ∙ ap layoutOf said) said
+of-words words P said laid = subst₂ P (layout-said words said laid) said
 
 pub slots-of-words : {sizes : Sizes} {layout : Layout} (words : List ℕ) → sizes ≡ sizesOf words → LaidOut sizes layout
     → layout .slots ≡ slotCount (getD words 2 0) (getD words 3 0)
-slots-of-words words said laid = ap (λ (l : Layout). l .slots) (laid .is ∙ ap layoutOf said)
+slots-of-words words said laid = ap (λ (l : Layout). l .slots) (layout-said words said laid)
 
 -- the test of a block of a level above 0
 pub tested-exactly : (k level code : ℕ) (es : Forest) → 1 ≤ level → 0 < k

@@ -3,6 +3,8 @@ pub mod Standing
 pub mod PlacedJoin
 pub mod SoundView
 pub mod BlockView
+pub mod OpenedSlot
+pub mod PassedElements
 pub mod FreeChains
 pub mod AllFree
 pub mod Emptied

@@ -10,7 +10,7 @@ use measures::sizes::Sizes;
 use measures::sizes::layout_of;
 
 // Every slot but the root's is put into the chain.
-pub fn free_all(store: &mut [u32], layout: Layout)
+fn free_all(store: &mut [u32], layout: Layout)
     requires { ⌜ LayoutFits layout (now store) ⌝ }
     ensures { λ _. ⌜ AllFree layout (now (store .entry)) (now (store .exit)) ⌝ }
 {

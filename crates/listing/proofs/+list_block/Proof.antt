@@ -14,7 +14,7 @@ use Rattle.query.specs.declared.count.Counted.the-variants.{Seen}
 use Rattle.measures.specs.Slot.{slotPart}
 use Rattle.store.specs.declared.opening.Opening.the-variants.{Elements}
 use Rattle.query.specs.Counting.{SlotOpening}
-use Rattle.query.proofs.OpenedSlot.{part-length}
+use Rattle.store.proofs.OpenedSlot.{few-elements}
 use Rattle.listing.proofs.ListedTo.{ListedTo, listed-none, listed-one, not-opened, element-damaged, all-listed}
 use Rattle.listing.proofs.ListedElement.{ElementListed, pixel-listed, block-too-high, block-skipped, block-listed}
 use Rattle.listing.proofs.list_block.Reads as list-block
@@ -82,7 +82,7 @@ module _ (t : ℕ) where
   few : (c : list-block-lts.After-slot-part (called t) (block-at t) list-block.Post Inv-loop μ-loop) → c .before .before .before .count .given .0 .0 ≤ 75
   few c =
       let o = opening (c .before .before) in
-      omega (arith, o .2 .laid, part-length (c .before .before .before .before .before .before .before .before .pre .1 .fits) (o .0) (part-is c) .1, ap length (part-is c))
+      few-elements (c .before .before .before .before .before .before .before .before .pre .1 .fits) (o .0) (o .2)
 
   open-slot-requires : list-block-lts.Need-open-slot-requires (called t) (block-at t) list-block.Post Inv-loop μ-loop
   open-slot-requires c κs = c .before .before .pre .1 .fits

@@ -11,6 +11,7 @@ use Rattle.pktree.specs.Window.{found, openedByWindow}
 use Rattle.pktree.proofs.Absurd.{zero-is-not-one}
 use Rattle.store.specs.Placed.{Placed, forestOf}
 use Rattle.measures.specs.Sizes.{panelOf, sizesOf}
+use Rattle.measures.proofs.Usable.{sizes-valid}
 use Rattle.store.specs.Sound.{Holds}
 use Rattle.query.specs.declared.count.Counted.{Counted}
 use Rattle.query.specs.declared.count.Counted.the-variants.{Seen, Damaged}
@@ -22,7 +23,7 @@ use Rattle.query.specs.Corners.{windowBetween, windowOf, CornersOf, Ordered}
 use Rattle.query.specs.Counting.{BeginsOnPanel, CountAnswer}
 use Rattle.listing.specs.Listing.{writtenAt, Wrote, ListMeets, ListAnswer}
 use Rattle.query.proofs.WholeTree.{WholeTree, whole-tree}
-use Rattle.query.proofs.RootLook.{rootLook, sizes-valid, can-start, of-root-look, room-at-root}
+use Rattle.query.proofs.RootLook.{rootLook, can-start, of-root-look, room-at-root}
 use Rattle.listing.proofs.list.Statement.{statement}
 use Rattle.listing.proofs.list.Tie as tie
 

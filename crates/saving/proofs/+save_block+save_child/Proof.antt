@@ -9,7 +9,8 @@ use lib.ListN.{length}
 use denote.Ref.{now}
 use Rattle.saving.specs.declared.Saved.the-variants.{Next}
 use Rattle.saving.specs.Saving.{SaveElementMeets}
-use Rattle.query.proofs.OpenedSlot.{part-length, SlotOpened, slot-opened, slot-shut}
+use Rattle.measures.proofs.Usable.{part-length}
+use Rattle.store.proofs.OpenedSlot.{SlotOpened, slot-opened, slot-shut}
 use Rattle.saving.proofs.SavedBlock.{block-no-room, block-shut, block-damaged, block-saved, block-not-lower, block-beyond, block-within, pixel-arm, child-arm}
 use Rattle.saving.proofs.SavedTo.{SavedTo, saved-none, saved-one}
 use borrow.Fn.Kinds.{In}
@@ -122,7 +123,7 @@ one-more t c =
     let loop = c .before .before .before in
     let o = loop .before .before .before .before .before .before in
     saved-one (opened t o) (c .before .before .loop-test .taken) (loop .loop .inv .1)
-    (rw (c .before .element-at .ensures, o .before .before .before .slot-part .ensures) at (element-written t c .right))
+    (rw (c .before .element-at .ensures, o .before .before .before .slot-part .ensures) at (element-written t c))
 
 save-block-returns-3 : (t : ℕ) → save-block-lts.Need-returns-3 (called-save-block t) (save-block-at t) save-block.Post save-block-Inv-loop save-block-μ-loop
 save-block-returns-3 t c =

@@ -2,8 +2,8 @@
 use borrow.Author.Needs.{needs}
 use native.Mathlib.Omega.{arith}
 use Rattle.measures.proofs.Bounds.{slot-count-bounded}
+use Rattle.measures.proofs.Usable.{sizes-valid}
 use Rattle.saving.proofs.EntryWrites.{length-headed}
-use Rattle.query.proofs.RootLook.{sizes-valid}
 use Rattle.saving.proofs.SaveAnswers.{can-save, no-numbers, too-short, no-walk, too-few, all-written}
 use Rattle.saving.proofs.save.Statement.{statement}
 use Rattle.saving.proofs.save.Tie as tie

@@ -4,12 +4,13 @@ use borrow.Author.Needs.{needs}
 use denote.Ref.{now}
 use Rattle.measures.specs.Sizes.{sizesOf}
 use Rattle.measures.specs.Layout.{layoutOf}
+use Rattle.measures.proofs.Usable.{sizes-valid}
 use Rattle.measures.specs.declared.sizes.Layout.{Layout}
 use Rattle.measures.specs.declared.sizes.Sizes.{Sizes}
 use Rattle.soundness.specs.declared.chain.Chain.the-variants.{Broken}
 use Rattle.soundness.specs.Chain.{ChainMeets, ChainEnds}
 use Rattle.soundness.specs.Walk.{NoneClaimed, BlockWalked}
-use Rattle.soundness.proofs.RootWalks.{limitsOf, rootClaim, noneSeen, rootLimits, sizes-valid, can-start, of-words, slots-of-words}
+use Rattle.soundness.proofs.RootWalks.{limitsOf, rootClaim, noneSeen, rootLimits, can-start, of-words, slots-of-words}
 use Rattle.soundness.proofs.CheckAnswers.{root-stands, chain-stands, numbers-agree, decided-by-counts}
 use Rattle.soundness.proofs.is_sound.Statement.{statement}
 use Rattle.soundness.proofs.is_sound.Tie as tie

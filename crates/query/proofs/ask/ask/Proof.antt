@@ -1,14 +1,13 @@
 -- `query::ask::ask` meets its contract: what `locate` ensures is the answer.
 use native.Mathlib.Omega.{arith}
-use mathlib.Core.Path.{refl, subst, sym}
-use Rattle.measures.specs.Sizes.{ValidSizes}
-use Rattle.measures.proofs.Usable.{layout-fits}
+use mathlib.Core.Path.{refl}
+use Rattle.measures.proofs.Usable.{sizes-valid, layout-fits}
 use Rattle.query.proofs.Asks.{asked-known, asked-damaged}
 use Rattle.query.proofs.ask.ask.Statement.{statement}
 use Rattle.query.proofs.ask.ask.Tie as tie
 
 layout-of-requires : tie.Need-layout-of-requires
-layout-of-requires c κs = let p = c .before .pre .0 in subst ValidSizes (sym (p .1)) (p .0 .valid)
+layout-of-requires c κs = let p = c .before .pre .0 in sizes-valid (p .0) (p .1)
 
 locate-requires : tie.Need-locate-requires
 locate-requires c κs =

@@ -13,7 +13,7 @@ use Rattle.query.specs.declared.count.Counted.the-variants.{Seen}
 use Rattle.measures.specs.Slot.{slotPart}
 use Rattle.store.specs.declared.opening.Opening.the-variants.{Elements}
 use Rattle.query.specs.Counting.{SlotOpening}
-use Rattle.query.proofs.OpenedSlot.{part-length}
+use Rattle.store.proofs.OpenedSlot.{few-elements}
 use Rattle.query.proofs.CountedTo.{CountedTo, counted-none, counted-one, not-opened, element-damaged, all-counted}
 use Rattle.query.proofs.CountedElement.{ElementAnswered, pixel-counted, block-too-high, block-skipped, block-counted}
 use Rattle.query.proofs.count.count_block.Reads as count-block
@@ -81,7 +81,7 @@ module _ (t : ℕ) where
   few : (c : count-block-lts.After-slot-part (called t) (block-at t) count-block.Post Inv-loop μ-loop) → c .before .before .before .count .given .0 .0 ≤ 75
   few c =
       let o = opening (c .before .before) in
-      omega (arith, o .2 .laid, part-length (c .before .before .before .before .before .before .before .pre .1 .fits) (o .0) (part-is c) .1, ap length (part-is c))
+      few-elements (c .before .before .before .before .before .before .before .pre .1 .fits) (o .0) (o .2)
 
   open-slot-requires : count-block-lts.Need-open-slot-requires (called t) (block-at t) count-block.Post Inv-loop μ-loop
   open-slot-requires c κs = c .before .pre .1 .fits

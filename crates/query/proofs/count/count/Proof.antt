@@ -10,11 +10,12 @@ use denote.Ref.{now}
 use Rattle.query.specs.declared.count.Counted.{Counted}
 use Rattle.query.specs.declared.count.Counted.the-variants.{Seen, Damaged}
 use Rattle.pktree.specs.Window as tree
+use Rattle.measures.proofs.Usable.{sizes-valid}
 use Rattle.query.specs.declared.window.Corners.{Corners}
 use Rattle.query.specs.Corners.{windowBetween}
 use Rattle.query.specs.Counting.{CountBounds, CountMeets, CountWithin, CountAnswer}
 use Rattle.query.proofs.WholeTree.{whole-tree}
-use Rattle.query.proofs.RootLook.{rootLook, sizes-valid, can-start, of-root-look, room-at-root}
+use Rattle.query.proofs.RootLook.{rootLook, can-start, of-root-look, room-at-root}
 use Rattle.query.proofs.count.count.Statement.{statement}
 use Rattle.query.proofs.count.count.Tie as tie
 

@@ -6,11 +6,11 @@ use mathlib.Core.Path.{_≡_, subst}
 use mathlib.Core.List.{List}
 use Rattle.store.specs.Opening.{Opened}
 use Rattle.measures.specs.Slot.{slotPart}
+use Rattle.measures.proofs.Usable.{part-length}
 use Rattle.measures.specs.declared.sizes.Layout.{Layout}
 use Rattle.store.specs.declared.opening.Opening.{Opening}
 use Rattle.store.specs.declared.opening.Opening.the-variants.{Elements, Damaged}
 use Rattle.query.specs.Counting.{SlotOpening}
-use Rattle.query.proofs.OpenedSlot.{part-length}
 use Rattle.query.proofs.opened.open_slot.Statement.{statement}
 use Rattle.query.proofs.opened.open_slot.Tie as tie
 

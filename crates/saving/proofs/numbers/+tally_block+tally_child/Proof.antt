@@ -7,7 +7,8 @@ use mathlib.Core.Logic.{⊎-elim}
 use denote.Ref.{now}
 use Rattle.saving.specs.declared.numbers.Tally.the-variants.{Blocks}
 use Rattle.saving.specs.Tally.{TallyElementMeets}
-use Rattle.query.proofs.OpenedSlot.{part-length, SlotOpened, slot-opened, slot-shut}
+use Rattle.measures.proofs.Usable.{part-length}
+use Rattle.store.proofs.OpenedSlot.{SlotOpened, slot-opened, slot-shut}
 use Rattle.saving.proofs.TalliedTo.{TalliedTo, tallied-none, tallied-one}
 use Rattle.saving.proofs.TallyAnswers.{tally-full, tally-shut, tally-damaged, tally-whole, child-not-lower, child-beyond, child-within, child-arm, pixel-arm}
 use borrow.Fn.Kinds.{In}
@@ -117,7 +118,7 @@ module _ (t : ℕ) where
       let loop = c .before .before .before in
       let o = loop .before .before in
       tallied-one (opening o) (c .before .before .loop-test .taken) (loop .loop .inv .1)
-      (rw (c .before .element-at .ensures, o .before .before .before .slot-part .ensures) at (element-tallied c .right))
+      (rw (c .before .element-at .ensures, o .before .before .before .slot-part .ensures) at (element-tallied c))
 
   tally-block-returns-3 : tally-block-lts.Need-returns-3 (called-tally-block t) (tally-block-at t) tally-block.Post Inv-loop μ-loop
   tally-block-returns-3 c = tally-damaged (rw (c .enum-told3 .given .1) at (one-more (c .before .before)))

@@ -1,7 +1,7 @@
 -- `saving::numbers::read_numbers` meets its contract: each way out is a law of SaidNumbers. Assumes nothing.
 use borrow.Author.Needs.{needs}
-use Rattle.query.proofs.RootLook.{sizes-valid}
-use Rattle.saving.proofs.SaidNumbers.{layout-fits, too-many, not-tallied, numbers-said}
+use Rattle.measures.proofs.Usable.{sizes-valid, layout-fits}
+use Rattle.saving.proofs.SaidNumbers.{too-many, not-tallied, numbers-said}
 use Rattle.saving.proofs.numbers.read_numbers.Statement.{statement}
 use Rattle.saving.proofs.numbers.read_numbers.Tie as tie
 
@@ -14,7 +14,7 @@ layout-of-requires c κs = let a = c .before .before .before .before in sizes-va
 tally-block-requires : tie.Need-tally-block-requires
 tally-block-requires c κs =
     let a = c .before .before .before .before .before in
-    (layout-fits (a .pre .1) (c .layout-of .ensures) (a .pre .0), c .layout-of .ensures .within .slots-from)
+    (layout-fits _ _ _ (a .pre .0) (a .pre .1) (c .layout-of .ensures), c .layout-of .ensures .within .slots-from)
 
 returns-2 : tie.Need-returns-2
 returns-2 c =

@@ -10,7 +10,7 @@ use denote.Ref.{now}
 use Rattle.store.specs.Element.{elementAt}
 use Rattle.soundness.specs.Walk.{BlockOpened, WithinLimits}
 use Rattle.soundness.proofs.WalkedTo.{partOf, WalkedTo, walked-none}
-use Rattle.soundness.proofs.BlockOpening.{few-elements}
+use Rattle.store.proofs.OpenedSlot.{few-elements}
 use Rattle.soundness.proofs.BlockWalks.{turn, refused-at, broken-at, too-long, block-whole}
 use Rattle.soundness.proofs.ElementWalks.{level-zero, past-slots, pixel-walked, block-walked}
 use Rattle.soundness.proofs.walk.walk_block.Reads as walk-block
@@ -140,7 +140,8 @@ module _ (t : ℕ) where
   block-add-i : walk-block-lts.Need-add-i (called-block t) (block-at t) walk-block.Post Inv-loop μ-loop
   block-add-i c =
       let l = c .before .before .before .before .before .before .before .before .before .before in
-      omega (arith, c .before .before .before .before .before .before .before .before .before .loop-test .taken, few-elements (l .before .before .before .before .before .before .before .before .before .before .pre .1) (opening (l .before .before .before .before .before)))
+      let can = l .before .before .before .before .before .before .before .before .before .before .pre .1 in
+      omega (arith, c .before .before .before .before .before .before .before .before .before .loop-test .taken, few-elements (can .can .fits) (can .slot-below) (opening (l .before .before .before .before .before) .header))
 
   block-loop-again : walk-block-lts.Need-loop-again (called-block t) (block-at t) walk-block.Post Inv-loop μ-loop
   block-loop-again c =

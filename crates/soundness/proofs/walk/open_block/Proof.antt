@@ -1,7 +1,8 @@
 -- `soundness::walk::open_block` meets its contract: a block as claimed has a header that says so, and is one block more.
 use borrow.Author.Needs.{needs}
 use native.Mathlib.Omega.{arith}
-use Rattle.soundness.proofs.BlockOpening.{part-length, shut, underfull, opened}
+use Rattle.measures.proofs.Usable.{part-length}
+use Rattle.soundness.proofs.BlockOpening.{shut, underfull, opened}
 use Rattle.soundness.proofs.walk.open_block.Statement.{statement}
 use Rattle.soundness.proofs.walk.open_block.Tie as tie
 
