@@ -24,7 +24,7 @@ use store::elements::element_at;
 use store::opening::Opening;
 
 // A pixel that the window has is written at the index of its turn; the output has room for it unless words are damaged.
-pub fn list_pixel(corners: Corners, code: u32, output: &mut [u32], found: u32) -> u32
+fn list_pixel(corners: Corners, code: u32, output: &mut [u32], found: u32) -> u32
     requires { ⌜ found < 4294967295 ⌝ }
     ensures { λ r. ⌜ PixelListed corners code found (now (output .entry)) (now (output .exit)) r ⌝ }
 {
@@ -39,25 +39,24 @@ pub fn list_pixel(corners: Corners, code: u32, output: &mut [u32], found: u32) -
     found + 1
 }
 
-// As count_block, and each found code is written once, in rising order.
-pub fn list_block(
+// As count_block, and each found code is written once, in rising order; `above` is the level of the block itself.
+fn list_block(
     store: &[u32],
     look: Look,
     slot: u32,
-    level: u32,
+    above: u32,
     code: u32,
     output: &mut [u32],
     found: u32,
     opened: u32,
 ) -> Counted
-    requires { ⌜ CanCount look (now store) level found opened ⌝ }
-    ensures { λ r. ⌜ ListMeets look (now (store .entry)) slot level code found opened (now (output .entry)) (now (output .exit)) r ⌝ }
+    requires { ⌜ CanCount look (now store) above found opened ⌝ }
+    ensures { λ r. ⌜ ListMeets look (now (store .entry)) slot above code found opened (now (output .entry)) (now (output .exit)) r ⌝ }
 {
-    let Opening::Elements(count) = open_slot(store, look.layout, slot, level, code, opened) else {
+    let Opening::Elements(count) = open_slot(store, look.layout, slot, above, code, opened) else {
         return Counted::Damaged;
     };
     let part = slot_part(store, look.layout, wide(slot));
-    let above = level;
     let mut pixels = found;
     let mut blocks = opened + 1;
     for i in 0..count {

@@ -30,7 +30,7 @@ pub enum Counted {
     Damaged,
 }
 
-pub fn count_pixel(corners: Corners, code: u32, found: u32) -> u32
+fn count_pixel(corners: Corners, code: u32, found: u32) -> u32
     requires { ⌜ found < 4294967295 ⌝ }
     ensures { λ r. ⌜ PixelCounted corners code found r ⌝ }
 {
@@ -51,7 +51,7 @@ pub fn at_most(most: u32, found: u32, opened: u32) -> Counted
 }
 
 // The block in this slot is opened: `found` pixels were found and `opened` blocks opened before it.
-pub fn count_block(
+fn count_block(
     store: &[u32],
     look: Look,
     slot: u32,

@@ -20,7 +20,7 @@ use store::opening::open_part;
 pub mod numbers;
 
 // Four bytes, the low one first.
-pub fn put_four(output: &mut [u8], at: usize, value: u32)
+fn put_four(output: &mut [u8], at: usize, value: u32)
     requires { ⌜ at + 4 ≤ length (now output) ⌝ }
     ensures { λ _. ⌜ now (output .exit) ≡ putFour (now (output .entry)) at value ⌝ }
 {
@@ -31,7 +31,7 @@ pub fn put_four(output: &mut [u8], at: usize, value: u32)
 }
 
 // Entry `at` of `entries`: its code in the first array, its level in the second.
-pub fn put_entry(output: &mut [u8], entries: usize, at: usize, level: u32, code: u32)
+fn put_entry(output: &mut [u8], entries: usize, at: usize, level: u32, code: u32)
     requires { ⌜ (10 + 5 * entries ≤ length (now output)) × ((at < entries) × (level ≤ 16)) ⌝ }
     ensures { λ _. ⌜ now (output .exit) ≡ putEntry entries at (now (output .entry)) level code ⌝ }
 {
@@ -51,7 +51,7 @@ pub enum Saved {
 }
 
 // A pixel's entry, at level 0.
-pub fn save_pixel(output: &mut [u8], entries: usize, at: usize, code: u32) -> Saved
+fn save_pixel(output: &mut [u8], entries: usize, at: usize, code: u32) -> Saved
     requires { ⌜ 10 + 5 * entries ≤ length (now output) ⌝ }
     ensures { λ r. ⌜ PixelPut entries code (now (output .entry)) (now (output .exit)) at r ⌝ }
 {
@@ -63,7 +63,7 @@ pub fn save_pixel(output: &mut [u8], entries: usize, at: usize, code: u32) -> Sa
 }
 
 // The entries of the block in this slot, from index `at` on: its own, then those of its elements.
-pub fn save_block(
+fn save_block(
     store: &[u32],
     saving: Saving,
     slot: usize,
@@ -85,8 +85,7 @@ pub fn save_block(
     };
     put_entry(output, entries, at, level, code);
     let mut next = at + 1;
-    let mut i = 0;
-    while i < count {
+    for i in 0..count {
         let saved = match element_at(part, i) {
             Element::Pixel(pixel) => save_pixel(output, entries, next, pixel),
             Element::Block {
@@ -99,13 +98,12 @@ pub fn save_block(
             return Saved::Damaged;
         };
         next = n;
-        i += 1;
     }
     Saved::Next(next)
 }
 
 // The block that an element of a block of this level names: a lower one, in a slot that there is.
-pub fn save_child(
+fn save_child(
     store: &[u32],
     saving: Saving,
     level: u32,
@@ -129,7 +127,7 @@ pub fn save_child(
 }
 
 // The sizes at the head of an image.
-pub fn put_header(output: &mut [u8], order: u32, k: u32, entries: u32, pixels: u32)
+fn put_header(output: &mut [u8], order: u32, k: u32, entries: u32, pixels: u32)
     requires { ⌜ (10 ≤ length (now output)) × ((order ≤ 16) × (k ≤ 16)) ⌝ }
     ensures { λ _. ⌜ HeaderPut (now (output .entry)) order k entries pixels (now (output .exit)) ⌝ }
 {

@@ -21,7 +21,7 @@ pub enum Tally {
 }
 
 // The block in this slot and those below it, after `opened` others: each is opened once, and pixels are passed over.
-pub fn tally_block(
+fn tally_block(
     store: &[u32],
     layout: Layout,
     slot: usize,
@@ -61,7 +61,7 @@ pub fn tally_block(
 }
 
 // The block that an element of a block of this level names: a lower one, in a slot that there is.
-pub fn tally_child(
+fn tally_child(
     store: &[u32],
     layout: Layout,
     level: u32,

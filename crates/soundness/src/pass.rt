@@ -20,7 +20,7 @@ pub enum Passing {
 }
 
 // The number of codes of a block of this level.
-pub fn span(level: u32) -> u64
+fn span(level: u32) -> u64
     requires { ⌜ level ≤ 16 ⌝ }
     ensures { λ r. ⌜ r ≡ 4 ^ level ⌝ }
 {
@@ -49,7 +49,7 @@ pub fn first_pass(quarters: u32, code: u32) -> Pass
 }
 
 // How many elements are in the quarter of the next one, that one counted.
-pub fn met_with(pass: Pass, quarter: u64) -> u32
+fn met_with(pass: Pass, quarter: u64) -> u32
     requires { ⌜ pass .met ≤ 16 ⌝ }
     ensures { λ r. ⌜ r ≡ tally (eqb quarter (pass .quarter)) (pass .met) ⌝ }
 {
@@ -61,7 +61,7 @@ pub fn met_with(pass: Pass, quarter: u64) -> u32
 }
 
 // One element, by its level and code: it starts past those behind it, is aligned and no larger than a quarter, and its quarter has fewer than k.
-pub fn pass_entry(pass: Pass, k: u32, quarters: u32, level: u32, code: u32) -> Passing
+fn pass_entry(pass: Pass, k: u32, quarters: u32, level: u32, code: u32) -> Passing
     requires { ⌜ CanPass pass k quarters ⌝ }
     ensures { λ r. ⌜ PassMeets k quarters pass (entry level code) r ⌝ }
 {

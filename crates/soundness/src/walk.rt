@@ -39,7 +39,7 @@ pub struct Claim {
 }
 
 // The number of elements of the block, if one more block may be looked at and this one says of itself what is claimed.
-pub fn open_block(store: &[u32], limits: Limits, claim: Claim, seen: Seen) -> Opening
+fn open_block(store: &[u32], limits: Limits, claim: Claim, seen: Seen) -> Opening
     requires { ⌜ CanWalk limits (now store) claim seen ⌝ }
     ensures { λ r. ⌜ OpenMeets limits (now (store .entry)) claim seen r ⌝ }
 {
@@ -92,7 +92,7 @@ pub fn walk_block(store: &[u32], limits: Limits, claim: Claim, seen: Seen) -> Wa
 }
 
 // One pixel more, if it may be.
-pub fn see_pixel(limits: Limits, seen: Seen) -> Walked
+fn see_pixel(limits: Limits, seen: Seen) -> Walked
     requires { ⌜ (limits .most ≤ 65535) × WithinLimits limits seen ⌝ }
     ensures { λ r. ⌜ PixelMeets limits seen r ⌝ }
 {
@@ -106,13 +106,7 @@ pub fn see_pixel(limits: Limits, seen: Seen) -> Walked
 }
 
 // One element of a block of this level: a pixel is counted, a block is walked.
-pub fn walk_element(
-    store: &[u32],
-    limits: Limits,
-    element: Element,
-    level: u32,
-    seen: Seen,
-) -> Walked
+fn walk_element(store: &[u32], limits: Limits, element: Element, level: u32, seen: Seen) -> Walked
     requires { ⌜ CanWalkElement limits (now store) element level seen ⌝ }
     ensures { λ r. ⌜ WalkElementMeets limits (now (store .entry)) element seen r ⌝ }
 {

@@ -60,18 +60,18 @@ called t = (
 )
 
 abbrev Inv-loop : list-block-lts.InvT-loop
-Inv-loop store look slot level code output₀ found opened count part above pixels₀ blocks₀ i₀ output pixels blocks i =
+Inv-loop store look slot level code output₀ found opened count part pixels₀ blocks₀ i₀ output pixels blocks i =
     ((i ≤ count) × (pixels + 100 * level ≤ look .most + 1600 + i) × (blocks ≤ look .layout .slots) × (length output ≡ length output₀))
     × ListedTo look store slot level code found opened i output₀ output (Seen pixels blocks)
 
 abbrev μ-loop : list-block-lts.MeasureT-loop
-μ-loop store look slot level code output₀ found opened count part above pixels₀ blocks₀ i₀ output pixels blocks i = count - i
+μ-loop store look slot level code output₀ found opened count part pixels₀ blocks₀ i₀ output pixels blocks i = count - i
 
 module _ (t : ℕ) where
   -- the slot was opened before the loop
   opening : (c : list-block-lts.After-known-told (called t) (block-at t) list-block.Post Inv-loop μ-loop)
       → let a = c .before .before .before .before .before .before .args in
-      SlotOpening (a .look .layout) (now (a .store)) (a .slot) (a .level) (a .code) (a .opened) (Elements (c .before .count .given .0 .0))
+      SlotOpening (a .look .layout) (now (a .store)) (a .slot) (a .above) (a .code) (a .opened) (Elements (c .before .count .given .0 .0))
   opening c = rw (c .before .count .given .1) at (c .before .before .before .open-slot .ensures)
 
   part-is : (c : list-block-lts.After-slot-part (called t) (block-at t) list-block.Post Inv-loop μ-loop)
@@ -109,9 +109,9 @@ module _ (t : ℕ) where
   -- one element more was listed, with this answer, and the output is as long as it came
   one-on : (c : list-block-lts.After-element-at (called t) (block-at t) list-block.Post Inv-loop μ-loop) (after : List ℕ) (r : Counted)
       → let a = c .before .before .before .before .before .before .before .before .before .before .before .args in let l = c .before .before .loop in
-      ElementListed (a .look) (now (a .store)) (c .element-at .result) (a .level) (l .pixels) (l .blocks) (l .output) after r
+      ElementListed (a .look) (now (a .store)) (c .element-at .result) (a .above) (l .pixels) (l .blocks) (l .output) after r
       → (length after ≡ length (now (a .output)))
-      × ListedTo (a .look) (now (a .store)) (a .slot) (a .level) (a .code) (a .found) (a .opened) (l .i + 1) (now (a .output)) after r
+      × ListedTo (a .look) (now (a .store)) (a .slot) (a .above) (a .code) (a .found) (a .opened) (l .i + 1) (now (a .output)) after r
   one-on c after r listed =
       let p = c .before .before .before in
       let inv = c .before .before .loop .inv in (
@@ -153,10 +153,10 @@ module _ (t : ℕ) where
   turned : (c : list-block-lts.At-match2-came (called t) (block-at t) list-block.Post Inv-loop μ-loop) (after : List ℕ) (n m : ℕ)
       → let a = c .before .before .before .before .before .before .before .before .before .before .before .before .args in let l = c .before .before .before .loop in
       c .match2 .output ≡ after → c .match2 .pixels ≡ n → c .match2 .blocks ≡ m → (n ≤ l .pixels + 1) ⊎ (n ≤ a .look .most) → m ≤ a .look .layout .slots
-      → ElementListed (a .look) (now (a .store)) (c .before .element-at .result) (a .level) (l .pixels) (l .blocks) (l .output) after (Seen n m)
-      → ((l .i + 1 ≤ c .before .before .before .before .before .before .before .count .given .0 .0) × (c .match2 .pixels + 100 * a .level ≤ a .look .most + 1600 + (l .i + 1)) × (c .match2 .blocks ≤ a .look .layout .slots)
+      → ElementListed (a .look) (now (a .store)) (c .before .element-at .result) (a .above) (l .pixels) (l .blocks) (l .output) after (Seen n m)
+      → ((l .i + 1 ≤ c .before .before .before .before .before .before .before .count .given .0 .0) × (c .match2 .pixels + 100 * a .above ≤ a .look .most + 1600 + (l .i + 1)) × (c .match2 .blocks ≤ a .look .layout .slots)
       × (length (c .match2 .output) ≡ length (now (a .output))))
-      × ListedTo (a .look) (now (a .store)) (a .slot) (a .level) (a .code) (a .found) (a .opened) (l .i + 1) (now (a .output)) (c .match2 .output)
+      × ListedTo (a .look) (now (a .store)) (a .slot) (a .above) (a .code) (a .found) (a .opened) (l .i + 1) (now (a .output)) (c .match2 .output)
       (Seen (c .match2 .pixels) (c .match2 .blocks))
   turned c after n m d e f more few listed =
       let inv = c .before .before .before .loop .inv .0 .1 in
