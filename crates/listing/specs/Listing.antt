@@ -15,36 +15,32 @@ use Rattle.store.specs.Placed.{Placed, forestOf}
 use Rattle.store.proofs.BlockView.{BlockView}
 use Rattle.query.specs.declared.count.Look.{Look}
 use Rattle.query.specs.declared.count.Counted.{Counted}
-use Rattle.query.specs.declared.count.Counted.the-variants.{Damaged}
 use Rattle.listing.specs.declared.Listed.{Listed}
 use Rattle.listing.specs.declared.Listed.the-variants.{Written, Short, Broken}
 use Rattle.query.specs.declared.window.Corners.{Corners}
 use Rattle.query.specs.Corners.{windowBetween, Ordered}
-use Rattle.query.specs.Counting.{foundIn, BeginsOnPanel, CountBounds, WithinSizes, seen, RoomFor}
+use Rattle.query.specs.Counting.{foundIn, BeginsOnPanel, WithinSizes, RoomFor, CountMeets, PixelCounted}
 
 -- these codes written from index `at` on, the rest unchanged
 abbrev pub writtenAt : List ℕ → ℕ → List ℕ → List ℕ
 writtenAt output at codes = take at output ++ (codes ++ drop (at + length codes) output)
 
--- the answer is count's, and the codes found among these elements stand in the output from index `at` on
-pub record Wrote (look : Look) (f : Forest) (at opened : ℕ) (before after : List ℕ) (r : Counted) : Type 0 where
-  pub answer : r ≡ seen (windowBetween (look .corners)) at opened f
-  pub output : after ≡ writtenAt before at (found (windowBetween (look .corners)) (pixels f))
+-- the codes found among these elements stand in the output from index `at` on, where there is room for them
+abbrev pub Wrote : tree.Window → Forest → ℕ → List ℕ → List ℕ → Type 0
+Wrote window f at before after = at + foundIn window f ≤ length before → after ≡ writtenAt before at (found window (pixels f))
 
+-- the answer is count's, and what is found is written
 pub record ListMeets (look : Look) (words : List ℕ) (slot level code at opened : ℕ) (before after : List ℕ) (r : Counted) : Type 0 where
-  pub bounds : CountBounds look r
+  pub counts : CountMeets look words slot level code at opened r
   pub long : length after ≡ length before
-  pub right : (k : ℕ) (es : Placed) → BlockView k (look .layout .width) (look .layout .slots) words slot level code es → Ordered (windowBetween (look .corners))
-      → RoomFor look at (suc opened) (forestOf es) → at + foundIn (windowBetween (look .corners)) (forestOf es) ≤ length before
-      → Wrote look (forestOf es) at (suc opened) before after r
-  pub closed : CannotOpen (look .layout .width) words slot level code → r ≡ Damaged
+  pub wrote : (k : ℕ) (es : Placed) → BlockView k (look .layout .width) (look .layout .slots) words slot level code es → Ordered (windowBetween (look .corners))
+      → RoomFor look at (suc opened) (forestOf es) → Wrote (windowBetween (look .corners)) (forestOf es) at before after
 
 -- a pixel that the window has is added to those found, and written where there is room
 pub record PixelListed (corners : Corners) (code at : ℕ) (before after : List ℕ) (r : ℕ) : Type 0 where
-  pub few : r ≤ at + 1
+  pub counted : PixelCounted corners code at r
   pub long : length after ≡ length before
-  pub right : Ordered (windowBetween corners) → at + foundIn (windowBetween corners) (pixel code empty) ≤ length before
-      → (r ≡ at + foundIn (windowBetween corners) (pixel code empty)) × (after ≡ writtenAt before at (found (windowBetween corners) (pixels (pixel code empty))))
+  pub wrote : Ordered (windowBetween corners) → Wrote (windowBetween corners) (pixel code empty) at before after
 
 -- list's answer, with what it leaves in the output
 abbrev pub ListCase : List ℕ → tree.Window → List ℕ → List ℕ → Forest → List ℕ → Listed → Type 0

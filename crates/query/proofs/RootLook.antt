@@ -1,9 +1,11 @@
--- What a call looks with from the root on: the layout and the most pixels that the store's own words say.
+-- What a call looks with from the root on: the layout and the most pixels that the store's own words say; and what it answers there.
 use Prim.Native.Nat.{ℕ, suc}
 use native.Mathlib.Omega.{arith}
-use mathlib.Core.Path.{_≡_, subst₂}
+use native.Mathlib.Nat.{zero-add}
+use native.Mathlib.Numerals.{one-add}
+use mathlib.Core.Path.{_≡_, ap, ap₂, subst₂, sym, _∙_}
 use mathlib.Core.List.{List}
-use lib.ListN.{getD}
+use lib.ListN.{length, getD}
 use Rattle.measures.specs.Sizes.{UsableStore, sizesOf}
 use Rattle.measures.specs.Layout.{LaidOut, layoutOf}
 use Rattle.store.specs.Placed.{Placed, forestOf}
@@ -11,10 +13,12 @@ use Rattle.measures.specs.declared.sizes.Sizes.{Sizes}
 use Rattle.measures.specs.declared.sizes.Layout.{Layout}
 use Rattle.measures.proofs.Usable.{sizes-valid, layout-said, layout-fits}
 use Rattle.query.specs.declared.count.Look.{Look}
+use Rattle.query.specs.declared.count.Counted.{Counted}
+use Rattle.query.specs.declared.count.Counted.the-variants.{Seen, Damaged}
 use Rattle.query.specs.declared.window.Corners.{Corners}
 use Rattle.query.specs.Corners.{windowBetween}
-use Rattle.query.specs.Counting.{CanCount, RoomFor}
-use Rattle.query.proofs.WholeTree.{WholeTree}
+use Rattle.query.specs.Counting.{CanCount, RoomFor, CountBounds, CountMeets, CountWithin, CountAnswer}
+use Rattle.query.proofs.WholeTree.{WholeTree, whole-tree}
 
 -- as the code makes it
 abbrev pub lookOf : Layout → Sizes → Corners → Look
@@ -42,3 +46,20 @@ of-root-look words corners P said laid = subst₂ (λ (l : Layout) (s : Sizes). 
 
 pub room-at-root : {words set : List ℕ} {corners : Corners} {es : Placed} → WholeTree words (windowBetween corners) set es → RoomFor (rootLook words corners) 0 (suc 0) (forestOf es)
 room-at-root t = record { room-found = omega (arith, t .few-found); room-opened = omega (arith, t .few-opened) }
+
+count-within : (words : List ℕ) (corners : Corners) (r : Counted) → CountBounds (rootLook words corners) r → CountWithin words r
+count-within words corners (Seen found opened) h = record { found-to = h .0; opened-to = h .1 }
+count-within words corners Damaged h = tt
+
+-- what the walk from the root answers is count's answer
+pub root-counted : (words : List ℕ) (corners : Corners) (r : Counted) → CountMeets (rootLook words corners) words 0 (getD words 1 0) 0 0 0 r
+    → CountAnswer words (windowBetween corners) r
+root-counted words corners r meets =
+    record {
+      bounds = count-within words corners r (meets .bounds);
+      sound = λ set holds ordered on.
+          let (es, t) = whole-tree words (windowBetween corners) set holds ordered on in
+          meets .right (getD words 2 0) es (t .view) ordered (room-at-root t)
+          ∙ ap₂ Seen (zero-add _ ∙ ap length (t .all-found)) (one-add _ ∙ sym (t .all-opened));
+      closed = meets .closed;
+    }

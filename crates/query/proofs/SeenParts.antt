@@ -14,8 +14,9 @@ use Rattle.store.proofs.BlockView.{ChildView}
 use Rattle.store.proofs.PassedElements.{between}
 use Rattle.query.specs.declared.count.Look.{Look}
 use Rattle.query.specs.declared.count.Counted.the-variants.{Seen}
-use Rattle.query.specs.Corners.{windowBetween, cornersMeet, Ordered}
-use Rattle.query.specs.Counting.{foundIn, seen, RoomFor}
+use Rattle.query.specs.declared.window.Corners.{Corners}
+use Rattle.query.specs.Corners.{windowBetween, cornersMeet, Ordered, PixelTested}
+use Rattle.query.specs.Counting.{foundIn, seen, RoomFor, PixelCounted}
 use Rattle.query.proofs.WindowTests.{corners-decide}
 use Rattle.query.proofs.WindowParts.{found-in-join, opened-join, NothingSeen, OneOpened, block-apart, block-opened}
 
@@ -36,6 +37,14 @@ pixel-outside window c e = record { none-found = rw e; none-opened = refl }
 
 pub pixel-inside : (window : Window) (c : ℕ) → inWindow window c ≡ true → found window (pixels (pixel c empty)) ≡ c ∷ []
 pixel-inside window c e = rw e
+
+module _ {corners : Corners} {c found : ℕ} {b : Bool} (tested : PixelTested corners c b) where
+  pub outside-not-counted : b ≡ false → PixelCounted corners c found found
+  outside-not-counted e =
+      record { few = omega arith; right = λ o. omega (arith, ap length (pixel-outside (windowBetween corners) c (sym (tested .says o) ∙ e) .none-found)) }
+
+  pub inside-counted : b ≡ true → PixelCounted corners c found (found + 1)
+  inside-counted e = record { few = omega arith; right = λ o. omega (arith, ap length (pixel-inside (windowBetween corners) c (sym (tested .says o) ∙ e))) }
 
 -- the block that an element names
 module _ {k width slots : ℕ} {words : List ℕ} {level code s i c : ℕ} {fs : Placed} (window : Window)

@@ -15,7 +15,8 @@ use Rattle.measures.specs.Slot.{slotPart}
 use Rattle.store.specs.declared.opening.Opening.the-variants.{Elements}
 use Rattle.query.specs.Counting.{SlotOpening}
 use Rattle.store.proofs.OpenedSlot.{few-elements}
-use Rattle.listing.proofs.ListedTo.{ListedTo, listed-none, listed-one, not-opened, element-damaged, all-listed}
+use Rattle.query.proofs.CountedTo.{not-opened, element-damaged}
+use Rattle.listing.proofs.ListedTo.{ListedTo, listed-none, listed-one, nothing-answered, all-listed}
 use Rattle.listing.proofs.ListedElement.{ElementListed, pixel-listed, block-too-high, block-skipped, block-listed}
 use Rattle.listing.proofs.list_block.Reads as list-block
 use Rattle.listing.proofs.list_block.Kinds as list-block-kinds
@@ -88,7 +89,7 @@ module _ (t : ℕ) where
   open-slot-requires c κs = c .before .before .pre .1 .fits
 
   returns : list-block-lts.Need-returns (called t) (block-at t) list-block.Post Inv-loop μ-loop
-  returns c = not-opened (c .before .before .before .before .before .pre .1) (rw (c .enum-told .given .1) at (c .before .before .open-slot .ensures))
+  returns c = nothing-answered refl (not-opened (c .before .before .before .before .before .pre .1) (rw (c .enum-told .given .1) at (c .before .before .open-slot .ensures)))
 
   slot-part-requires : list-block-lts.Need-slot-part-requires (called t) (block-at t) list-block.Post Inv-loop μ-loop
   slot-part-requires c κs = (c .before .before .before .before .before .before .before .pre .1 .fits, omega (arith, c .wide .ensures, opening (c .before) .0))
@@ -122,7 +123,7 @@ module _ (t : ℕ) where
   returns-2 : list-block-lts.Need-returns-2 (called t) (block-at t) list-block.Post Inv-loop μ-loop
   returns-2 c =
       let on = one-on (c .before .before .before .before) _ _ (block-too-high (c .before .before .slot .given .1) (c .if1 .taken)) in
-      element-damaged (on .0) (on .1)
+      nothing-answered (on .0) (element-damaged (on .1 .counted))
 
   meets-requires : list-block-lts.Need-meets-requires (called t) (block-at t) list-block.Post Inv-loop μ-loop
   meets-requires c κs = omega (arith, c .if1 .left, c .before .before .before .before .before .before .before .before .before .before .before .before .before .before .before .pre .1 .level-to)
@@ -147,7 +148,7 @@ module _ (t : ℕ) where
   returns-3 c =
       let listed = rw (c .enum-told2 .given .1) at (c .before .before .before .before .list-block .ensures) in
       let on = one-on (c .before .before .before .before .before .before .before .before .before .before .before .before) _ _ (block-listed (c .before .before .before .before .before .before .before .before .before .before .slot .given .1) (c .before .before .before .before .before .before .before .meets .ensures) (c .before .before .before .before .before .before .if2 .taken) listed) in
-      element-damaged (on .0) (on .1)
+      nothing-answered (on .0) (element-damaged (on .1 .counted))
 
   -- where the ways of one turn meet, with the numbers and the output that its element left
   turned : (c : list-block-lts.At-match2-came (called t) (block-at t) list-block.Post Inv-loop μ-loop) (after : List ℕ) (n m : ℕ)
@@ -174,10 +175,10 @@ module _ (t : ℕ) where
   loop-again : list-block-lts.Need-loop-again (called t) (block-at t) list-block.Post Inv-loop μ-loop
   loop-again c =
       let still = c .before .before .before .loop .inv .0 .2 in
-      ⊎-elim (λ w. turned c _ _ _ (w .7) (w .8) (w .9) (inl (w .4 .ensures .few)) still (pixel-listed (w .1 .given .1) (w .4 .ensures)))
+      ⊎-elim (λ w. turned c _ _ _ (w .7) (w .8) (w .9) (inl (w .4 .ensures .counted .few)) still (pixel-listed (w .1 .given .1) (w .4 .ensures)))
       (⊎-elim (λ w.
       let answer = w .11 .given .1 in
-      let bounds = rw answer at (w .7 .ensures .bounds) in
+      let bounds = rw answer at (w .7 .ensures .counts .bounds) in
       turned c _ _ _ (w .13) (w .14) (w .15) (inr (bounds .0)) (bounds .1) (block-listed (w .1 .given .1) (w .4 .ensures) (w .5 .taken) (rw answer at (w .7 .ensures))))
       (λ w. turned c _ _ _ (w .6) (w .7) (w .8) (inl (omega arith)) still (block-skipped (w .1 .given .1) (w .4 .ensures) (w .5 .left))))
       (c .match2 .came)

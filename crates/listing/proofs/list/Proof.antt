@@ -1,5 +1,5 @@
 -- `listing::list` meets its contract: count has seen that the output is long enough, and the walk from the root writes all that 01 lists of the set.
-use Prim.Native.Nat.{ℕ, _+_, _≤_, _<_}
+use Prim.Native.Nat.{ℕ, _≤_, _<_}
 use native.Mathlib.Omega.{arith}
 use borrow.Author.Needs.{needs}
 use mathlib.Core.Path.{_≡_, refl, ap, subst, sym, _∙_}
@@ -7,9 +7,8 @@ use mathlib.Core.List.{List}
 use lib.ListN.{length, getD}
 use denote.Ref.{now}
 use Rattle.pktree.specs.Window as tree
-use Rattle.pktree.specs.Window.{found, openedByWindow}
+use Rattle.pktree.specs.Window.{found}
 use Rattle.pktree.proofs.Absurd.{zero-is-not-one}
-use Rattle.store.specs.Placed.{Placed, forestOf}
 use Rattle.measures.specs.Sizes.{panelOf, sizesOf}
 use Rattle.measures.proofs.Usable.{sizes-valid}
 use Rattle.store.specs.Sound.{Holds}
@@ -21,9 +20,9 @@ use Rattle.query.specs.declared.window.Window.{Window}
 use Rattle.query.specs.declared.window.Corners.{Corners}
 use Rattle.query.specs.Corners.{windowBetween, windowOf, CornersOf, Ordered}
 use Rattle.query.specs.Counting.{BeginsOnPanel, CountAnswer}
-use Rattle.listing.specs.Listing.{writtenAt, Wrote, ListMeets, ListAnswer}
-use Rattle.query.proofs.WholeTree.{WholeTree, whole-tree}
-use Rattle.query.proofs.RootLook.{rootLook, can-start, of-root-look, room-at-root}
+use Rattle.listing.specs.Listing.{writtenAt, ListMeets, ListAnswer}
+use Rattle.query.proofs.WholeTree.{whole-tree}
+use Rattle.query.proofs.RootLook.{rootLook, can-start, of-root-look, room-at-root, root-counted}
 use Rattle.listing.proofs.list.Statement.{statement}
 use Rattle.listing.proofs.list.Tie as tie
 
@@ -52,20 +51,24 @@ module _ {words : List ℕ} {window : tree.Window} {counted : Counted} (count : 
 
 module _ {words : List ℕ} {corners : Corners} {counted : Counted} {n m : ℕ} {before after : List ℕ} {r : Counted} (e : counted ≡ Seen n m) (fits : n ≤ length before)
     (meets : ListMeets (rootLook words corners) words 0 (getD words 1 0) 0 0 0 before after r) (count : CountAnswer words (windowBetween corners) counted) where
-  -- the walk from the root has written what is below it
+  -- the walk from the root answers as count does
+  again : CountAnswer words (windowBetween corners) r
+  again = root-counted words corners r (meets .counts)
+
+  -- and has written all that 01 lists of the set
   root-wrote : (set : List ℕ) → Holds words set → Ordered (windowBetween corners) → BeginsOnPanel (panelOf (sizesOf words)) (windowBetween corners)
-      → (es : Placed) × WholeTree words (windowBetween corners) set es × Wrote (rootLook words corners) (forestOf es) 0 1 before after r
+      → after ≡ writtenAt before 0 (found (windowBetween corners) set)
   root-wrote set holds ordered on =
       let (es, t) = whole-tree words (windowBetween corners) set holds ordered on in
       let s = count .sound set holds ordered on in
       let p : n ≡ length (found (windowBetween corners) set) = cc in
-      (es, t, meets .right (getD words 2 0) es (t .view) ordered (room-at-root t) (omega (arith, ap length (t .all-found))))
+      meets .wrote (getD words 2 0) es (t .view) ordered (room-at-root t) (omega (arith, ap length (t .all-found))) ∙ ap (writtenAt before 0) (t .all-found)
 
   not-listed : r ≡ Damaged → ListAnswer words (windowBetween corners) before after Broken
   not-listed f =
       record {
         bounds = tt;
-        sound = λ set holds ordered on. let (es, t, w) = root-wrote set holds ordered on in let a = w .answer in zero-is-not-one (cc);
+        sound = λ set holds ordered on. zero-is-not-one (cc (again .sound set holds ordered on));
         short = λ x g. zero-is-not-one (cc);
         long = meets .long;
         closed = λ shut. refl;
@@ -74,16 +77,13 @@ module _ {words : List ℕ} {corners : Corners} {counted : Counted} {n m : ℕ} 
   listed : {x y : ℕ} → r ≡ Seen x y → ListAnswer words (windowBetween corners) before after (Written n y)
   listed {x} {y} f =
       let b = rw e at (count .bounds) in
-      let o = rw f at (meets .bounds) in
+      let o = rw f at (again .bounds) in
       record {
-        bounds = (record { found-to = b .found-to; opened-to = o .1 }, fits);
+        bounds = (record { found-to = b .found-to; opened-to = o .opened-to }, fits);
         sound = λ set holds ordered on.
-            let (es, t, w) = root-wrote set holds ordered on in
-            let a = w .answer in
-            let q : y ≡ 1 + openedByWindow (windowBetween corners) (forestOf es) = cc in
             let s = count .sound set holds ordered on in
-            let z : n ≡ length (found (windowBetween corners) set) = cc in
-            (z, omega (arith, t .all-opened), fits, w .output ∙ ap (writtenAt before 0) (t .all-found));
+            let a = again .sound set holds ordered on in
+            ((cc), (cc), fits, root-wrote set holds ordered on);
         short = λ n g. zero-is-not-one (cc);
         long = meets .long;
         closed = λ shut. let s = count .closed shut in zero-is-not-one (cc);
