@@ -1,21 +1,33 @@
 -- A run of elements that moves to a free slot: what taking the slot, the move, the splice and the header leave together.
-use Prim.Native.Nat.{ℕ, _+_, _*_, _≤_, _<_}
+use Prim.Native.Nat.{ℕ, _+_, _-_, _*_, _≤_, _<_}
 use native.Mathlib.Omega.{arith}
 use native.Mathlib.Decide.{ℕ-discrete}
 use mathlib.Core.Path.{_≡_, refl, ap, sym, _∙_}
 use mathlib.Core.List.{List}
-use lib.ListN.{length, getD}
+use lib.ListN.{length, getD, take, drop}
 use lib.Seq.{paste}
+use borrow.Rule.Slice.PartMut.{putMid}
 use Rattle.measures.specs.declared.sizes.Layout.{Layout}
 use Rattle.store.specs.declared.free.FreeSlot.the-variants.{Taken}
+use Rattle.measures.specs.Layout.{LayoutFits, SlotOffset}
 use Rattle.measures.specs.Slot.{slotPart, countWord, nextWord, OnlySlot}
 use Rattle.store.specs.Splice.{elementsIn, CanSplice, withHeader}
 use Rattle.store.specs.FreeSlots.{TookFree}
-use Rattle.measures.proofs.SlotWrites.{SlotWritten, HeadWritten, head-word-set}
-use Rattle.measures.proofs.Usable.{slot-long}
+use Rattle.measures.proofs.SlotWrites.{SlotWritten, HeadWritten, lent-part, slot-given-back, head-word-set}
+use Rattle.measures.proofs.Usable.{slot-within, slot-long}
 use Rattle.rewrite.specs.Rewrite.{CanCut, SlotNow, SplicedSlot, RunMoved, BlockFormed, blockWords, runWords}
 use Rattle.rewrite.proofs.SlotNows.{header-kept, slot-wrote, spliced-now}
 use Rattle.rewrite.proofs.Runs.{run-within, run-whole, run-long, run-fits}
+
+-- the part that code lends for writing is the slot, and the slot is what comes back
+pub slot-lent : {layout : Layout} {words : List ℕ} {slot at : ℕ} (part : List ℕ) → LayoutFits layout words → slot < layout .slots → SlotOffset layout slot at
+    → length part ≡ length (take (at + layout .width - at) (drop at words))
+    → (take (at + layout .width - at) (drop at words) ≡ slotPart (layout .width) words slot)
+    × SlotWritten (layout .width) slot words part (putMid at (at + layout .width - at) words part)
+slot-lent {layout} {words} {slot} {at} part fits below o long = (
+  lent-part (layout .width) slot at words (o .is),
+  slot-given-back (layout .width) slot at words part (o .is) (slot-within layout slot words fits below) long,
+)
 
 -- a run of at least one element gives way to one
 pub run-gives-way : {layout : Layout} {words : List ℕ} {slot level first size : ℕ} (source : List ℕ) → CanCut layout words slot level first size → 1 ≤ size
