@@ -1,14 +1,9 @@
--- The number of codes of a block, as the code makes it by a shift.
+-- Codes and sizes of blocks, as the reader works them out.
 use Prim.Native.Nat.{ℕ, zero, suc, _+_, _-_, _*_, _/_, _%_, _^_, _≤_, _<_}
 use native.Mathlib.Omega.{arith}
-use native.Mathlib.Nat.{pow-le-pow-right, div-mul-le-self}
+use native.Mathlib.Nat.{div-mul-le-self}
 use mathlib.Core.Path.{_≡_}
-use Rattle.morton.proofs.Blocks.{four-pow}
-
-pub shifted-size : (level : ℕ) → level ≤ 16 → 1 * 2 ^ (2 * level) % 18446744073709551616 ≡ 4 ^ level
-shifted-size level h =
-    let p : 4 ^ level ≤ 4 ^ 16 = pow-le-pow-right (omega arith) h in
-    omega (arith, four-pow level)
+use Rattle.morton.proofs.Blocks.{four-pow, size-to}
 
 -- a code without its bits below the level
 pub shifted-code : (level code : ℕ) → code < 18446744073709551616 → code / 2 ^ (2 * level) * 2 ^ (2 * level) % 18446744073709551616 ≡ code / 4 ^ level * 4 ^ level
@@ -21,4 +16,4 @@ size-of-quarters (suc level) h = let e : suc level - 1 ≡ level = omega arith i
 
 -- no panel has more than 2 ^ 32 pixels
 pub panel-size : (order : ℕ) → order ≤ 16 → 0 + 4 ^ order ≤ 4294967296
-panel-size order h = let p : 4 ^ order ≤ 4 ^ 16 = pow-le-pow-right (omega arith) h in omega arith
+panel-size order h = omega (arith, size-to order h)

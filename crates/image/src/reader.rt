@@ -11,6 +11,7 @@ use crate::parts::codes_part;
 use crate::parts::levels_part;
 use crate::parts::pixel_number;
 use measures::slots::wide;
+use morton::block_size;
 
 // How many elements stand at an index, and the index after their entries; or no set has these entries.
 pub enum ElementsRead {
@@ -45,14 +46,6 @@ pub fn is_inside(codes: &[u8], levels: &[u8], at: usize, from: usize, to: usize)
         return false;
     }
     code < to
-}
-
-// The number of codes of a block.
-pub fn block_size(level: u32) -> usize
-    requires { ⌜ level ≤ 16 ⌝ }
-    ensures { λ r. ⌜ r ≡ 4 ^ level ⌝ }
-{
-    1usize << (2 * level)
 }
 
 // Can an element of this level and code stand in a quarter of level `quarter`? It is no larger, and aligned.

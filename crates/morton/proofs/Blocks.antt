@@ -1,7 +1,7 @@
 -- An aligned block of 4 ^ i codes is an aligned square of side 2 ^ i.
 use mathlib.Core.Path.{_≡_, refl, ap, _∙_}
 use Prim.Native.Nat.{ℕ, zero, suc, _+_, _-_, _*_, _/_, _%_, _^_, _≤_, _<_}
-use native.Mathlib.Nat.{pow-suc, div-div-eq-div-mul, not-suc-le-zero, le-of-suc-le-suc, lt-of-not-le, sub-zero, div-one, suc-sub-suc}
+use native.Mathlib.Nat.{pow-suc, pow-le-pow-right, div-div-eq-div-mul, not-suc-le-zero, le-of-suc-le-suc, lt-of-not-le, sub-zero, div-one, suc-sub-suc}
 use native.Mathlib.Omega.{arith}
 use lib.Pow.{pow-add}
 use Rattle.morton.specs.Code.{gatherBits, interleave}
@@ -14,6 +14,10 @@ four-pow zero = refl
 four-pow (suc i) =
     let e : 2 ^ (2 * suc i) ≡ 2 ^ suc (suc (2 * i)) = ap (λ (n : ℕ). 2 ^ n) (omega arith) in
     omega (arith, e, pow-suc 2 (suc (2 * i)), pow-suc 2 (2 * i), pow-suc 4 i, four-pow i)
+
+-- no block has more than 2 ^ 32 codes
+pub size-to : (level : ℕ) → level ≤ 16 → 4 ^ level ≤ 4294967296
+size-to level h = pow-le-pow-right (omega arith) h
 
 -- codes in one block are in one larger block
 pub block-up : (a b : ℕ) {i j : ℕ} → i ≤ j → a / 4 ^ i ≡ b / 4 ^ i → a / 4 ^ j ≡ b / 4 ^ j

@@ -67,6 +67,14 @@ pub fn y_between(first: u32, last: u32, code: u32) -> bool
     is_between(first & 0xaaaa_aaaa, last & 0xaaaa_aaaa, code & 0xaaaa_aaaa)
 }
 
+// How many codes a block of this level has: 4^16 is more than 32 bits hold.
+pub fn block_size(level: u32) -> usize
+    requires { ⌜ level ≤ 16 ⌝ }
+    ensures { λ r. ⌜ r ≡ 4 ^ level ⌝ }
+{
+    1usize << (2 * level)
+}
+
 // Which block of this level, in ascending order, a code lies in: its low bits shifted out.
 pub fn block_index(code: u32, level: u32) -> u32
     requires { ⌜ level ≤ 15 ⌝ }

@@ -1,9 +1,7 @@
 -- One element of a pass: what the code's tests of it say of the one-pass test.
-use Prim.Native.Nat.{ℕ, zero, suc, _+_, _*_, _/_, _%_, _^_, _≤_, _<_}
-use native.Mathlib.Omega.{arith}
-use native.Mathlib.Nat.{pow-suc, pow-le-pow-right}
+use Prim.Native.Nat.{ℕ, _+_, _/_, _%_, _^_, _≤_, _<_}
 use native.Mathlib.Numerals.{add-one}
-use mathlib.Core.Path.{_≡_, refl, ap}
+use mathlib.Core.Path.{_≡_}
 use lib.Dec.{eqb}
 use borrow.Author.Tests.{lt-leb, le-leb, lt-ltb, le-ltb, eq-eqb, ne-eqb}
 use Rattle.pktree.specs.Entries.{entry}
@@ -11,19 +9,6 @@ use Rattle.pktree.proofs.LocalTest.{tally}
 use Rattle.soundness.specs.declared.pass.Pass.{Pass}
 use Rattle.soundness.specs.declared.pass.Passing.the-variants.{On, Refused}
 use Rattle.soundness.specs.Pass.{PassMeets}
-
--- two bits for each level
-two-bits : (i : ℕ) → 2 ^ (2 * i) ≡ 4 ^ i
-two-bits zero = refl
-two-bits (suc i) =
-    let e : 2 ^ (2 * suc i) ≡ 2 ^ suc (suc (2 * i)) = ap (λ (n : ℕ). 2 ^ n) (omega arith) in
-    omega (arith, e, pow-suc 2 (suc (2 * i)), pow-suc 2 (2 * i), pow-suc 4 i, two-bits i)
-
--- the number of codes of a block, as the code makes it by a shift
-pub span-of-level : (level : ℕ) → level ≤ 16 → (1 * 2 ^ (2 * level) % 18446744073709551616 ≡ 4 ^ level) × (4 ^ level ≤ 4294967296)
-span-of-level level h =
-    let p : 4 ^ level ≤ 4 ^ 16 = pow-le-pow-right (omega arith) h in
-    omega (arith, two-bits level)
 
 pub met-same : {q r : ℕ} (n : ℕ) → q ≡ r → n + 1 ≡ tally (eqb q r) n
 met-same {q} {r} n e = rw (eq-eqb q r e, add-one)

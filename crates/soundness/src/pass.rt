@@ -4,13 +4,14 @@ ghost use lib.Dec.{eqb};
 ghost use Rattle.pktree.specs.Entries.{entry};
 ghost use Rattle.pktree.proofs.LocalTest.{tally};
 ghost use Rattle.soundness.specs.Pass.{CanPass, PassMeets, entryOf, firstPass};
+use morton::block_size;
 use store::elements::Element;
 
 // What one pass over the elements of a block knows of those behind it: the first code past them, the quarter of the last one, and how many
 // of them are in that quarter.
 pub struct Pass {
-    pub from: u64,
-    pub quarter: u64,
+    pub from: usize,
+    pub quarter: usize,
     pub met: u32,
 }
 
@@ -19,20 +20,12 @@ pub enum Passing {
     Refused,
 }
 
-// The number of codes of a block of this level.
-fn span(level: u32) -> u64
-    requires { ⌜ level ≤ 16 ⌝ }
-    ensures { λ r. ⌜ r ≡ 4 ^ level ⌝ }
-{
-    1u64 << (2 * level)
-}
-
 // The first code past a block.
-pub fn block_end(level: u32, code: u32) -> u64
+pub fn block_end(level: u32, code: u32) -> usize
     requires { ⌜ level ≤ 16 ⌝ }
     ensures { λ r. ⌜ r ≡ code + 4 ^ level ⌝ }
 {
-    code as u64 + span(level)
+    code as usize + block_size(level)
 }
 
 // Before the first element of a block whose quarters are of this level.
@@ -40,16 +33,16 @@ pub fn first_pass(quarters: u32, code: u32) -> Pass
     requires { ⌜ quarters ≤ 15 ⌝ }
     ensures { λ r. ⌜ r ≡ firstPass quarters code ⌝ }
 {
-    let from = code as u64;
+    let from = code as usize;
     Pass {
         from,
-        quarter: from / span(quarters),
+        quarter: from / block_size(quarters),
         met: 0,
     }
 }
 
 // How many elements are in the quarter of the next one, that one counted.
-fn met_with(pass: Pass, quarter: u64) -> u32
+fn met_with(pass: Pass, quarter: usize) -> u32
     requires { ⌜ pass .met ≤ 16 ⌝ }
     ensures { λ r. ⌜ r ≡ tally (eqb quarter (pass .quarter)) (pass .met) ⌝ }
 {
@@ -65,18 +58,18 @@ fn pass_entry(pass: Pass, k: u32, quarters: u32, level: u32, code: u32) -> Passi
     requires { ⌜ CanPass pass k quarters ⌝ }
     ensures { λ r. ⌜ PassMeets k quarters pass (entry level code) r ⌝ }
 {
-    let at = code as u64;
+    let at = code as usize;
     if at < pass.from {
         return Passing::Refused;
     }
     if quarters < level {
         return Passing::Refused;
     }
-    let codes = span(level);
+    let codes = block_size(level);
     if at % codes != 0 {
         return Passing::Refused;
     }
-    let quarter = at / span(quarters);
+    let quarter = at / block_size(quarters);
     let met = met_with(pass, quarter);
     if k <= met {
         return Passing::Refused;

@@ -29,7 +29,7 @@ use Rattle.image.proofs.reader.read_quarter.Kinds as read-quarter-kinds
 use Rattle.image.proofs.reader.+read_element+read_elements+read_quarter.Lts-read_quarter as read-quarter-lts
 use Rattle.image.proofs.parts.byte_at.Reads as byte-at-reads
 use Rattle.image.proofs.parts.code_at.Reads as code-at-reads
-use Rattle.image.proofs.reader.block_size.Reads as block-size-reads
+use Rattle.morton.proofs.block_size.Reads as block-size-reads
 use Rattle.image.proofs.reader.fits_quarter.Reads as fits-quarter-reads
 use Rattle.image.proofs.reader.is_inside.Reads as is-inside-reads
 use Rattle.measures.proofs.slots.wide.Reads as wide-reads

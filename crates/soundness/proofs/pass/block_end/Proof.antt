@@ -1,12 +1,12 @@
 -- `soundness::pass::block_end` meets its contract: neither part is more than 2 ^ 32.
 use borrow.Author.Needs.{needs}
 use native.Mathlib.Omega.{arith}
-use Rattle.soundness.proofs.PassSteps.{span-of-level}
+use Rattle.morton.proofs.Blocks.{size-to}
 use Rattle.soundness.proofs.pass.block_end.Statement.{statement}
 use Rattle.soundness.proofs.pass.block_end.Tie as tie
 
 add-result : tie.Need-add-result
-add-result c = omega (arith, span-of-level (c .before .args .level) (c .before .pre) .1, c .span .ensures, c .before .fits .code .fits)
+add-result c = omega (arith, size-to (c .before .args .level) (c .before .pre), c .block-size .ensures, c .before .fits .code .fits)
 
 pub block-end-spec : {M : Type 1} → statement M
 block-end-spec = tie.close (tie.spec (λ c κs. search needs) add-result (λ c. search needs))
