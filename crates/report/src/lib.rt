@@ -1,6 +1,8 @@
 // What a trial counts, and what is printed on a difference.
 ghost use mathlib.Core.Path.{_≡_};
-ghost use lib.ListN.{length};
+ghost use mathlib.Core.Bool.{not};
+ghost use lib.Dec.{eqb};
+ghost use lib.ListN.{length, getD};
 use draws::Step;
 use plain::answer::Answer;
 use plain::answer::equal;
@@ -54,7 +56,9 @@ pub const CHECK: u32 = 8;
 pub const PAST: u32 = 9;
 
 // After a difference nothing more is run.
-pub fn stopped(plain: &[u32]) -> bool {
+pub fn stopped(plain: &[u32]) -> bool
+    ensures { λ r. ⌜ r ≡ not (eqb (getD (now (plain .entry)) 331 0) 0) ⌝ }
+{
     word(plain, DIFFERENCES) != 0
 }
 
@@ -179,13 +183,21 @@ fn print_pair(at: u32, got: u32, want: u32) {
     io::write_all(1, b"\n");
 }
 
-pub fn print_total(value: u32, of: &[u8]) {
+fn print_total(value: u32, of: &[u8]) {
     io::print_decimal(1, value as u64);
     io::write_all(1, of);
 }
 
+// Whether all agreed, and that printed with the totals.
+pub fn print_totals(name: &[u8], number: u32, plain: &[u32]) -> bool
+    ensures { λ r. ⌜ r ≡ eqb (getD (now (plain .entry)) 331 0) 0 ⌝ }
+{
+    print_run(name, number, plain);
+    word(plain, DIFFERENCES) == 0
+}
+
 // What was run, whether all agreed, and how often each answer came (0 is accepted).
-pub fn print_totals(name: &[u8], number: u32, plain: &[u32]) {
+fn print_run(name: &[u8], number: u32, plain: &[u32]) {
     io::write_all(1, name);
     print_total(number, b": ");
     print_total(word(plain, CALLS), b" calls, ");
