@@ -6,6 +6,7 @@ use mathlib.Core.List.{List, []}
 use lib.ListN.{length, length-append}
 use Rattle.pktree.specs.Elements.{Forest, empty, block}
 use Rattle.pktree.specs.Entries.{entries}
+use Rattle.pktree.proofs.Absurd.{zero-is-not-one}
 use Rattle.store.specs.declared.elements.Element.{Element}
 use Rattle.store.specs.declared.elements.Element.the-variants.{Pixel, Block}
 use Rattle.measures.specs.Layout.{LayoutFits}
@@ -15,8 +16,9 @@ use Rattle.saving.specs.declared.Saved.{Saved}
 use Rattle.saving.specs.declared.Saved.the-variants.{Next, Damaged}
 use Rattle.saving.specs.Saving.{putEntry, PixelPut, SaveMeets, SaveElementMeets}
 use Rattle.store.proofs.OpenedSlot.{SlotOpened, SlotShut, opened-not-shut, view-opens}
+use Rattle.store.proofs.PassedElements.{all-passed}
 use Rattle.saving.proofs.EntryWrites.{length-put-entry}
-use Rattle.saving.proofs.SavedTo.{own-entry-first, SavedTo, saved-all, saved-damaged}
+use Rattle.saving.proofs.SavedTo.{own-entry-first, SavedTo}
 
 -- the entries of a block are its own and those of its elements
 block-room : (level code at n : ℕ) (f : Forest) → at + length (entries (block level code f empty)) ≤ n → at + 1 + length (entries f) ≤ n
@@ -44,7 +46,7 @@ module _ {saving : Saving} {words : List ℕ} {slot level code : ℕ} {output : 
         record {
           bounds = tt;
           long = after-own-entry (saving .entries) at output own after level code put long;
-          right = λ k es view room. absurd (saved-damaged to k es view (block-room level code at (saving .entries) (forestOf es) room));
+          right = λ k es view room. zero-is-not-one (cc (to .passed k es view (block-room level code at (saving .entries) (forestOf es) room) .done .answer));
           closed = λ shut. refl;
         }
 
@@ -56,7 +58,7 @@ module _ {saving : Saving} {words : List ℕ} {slot level code : ℕ} {output : 
           bounds = bound;
           long = after-own-entry (saving .entries) at output own after level code put long;
           right = λ k es view room.
-              own-entry-first (rw put at (saved-all o end to k es view (block-room level code at (saving .entries) (forestOf es) room)));
+              own-entry-first (rw put at (all-passed o view (to .passed k es view (block-room level code at (saving .entries) (forestOf es) room)) end));
           closed = λ shut. absurd (opened-not-shut o shut);
         }
 

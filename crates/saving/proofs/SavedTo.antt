@@ -7,7 +7,6 @@ use mathlib.Core.List.{List, [], append-nil}
 use lib.ListN.{length, length-append}
 use Rattle.pktree.specs.Elements.{Forest, empty, block, _⧺_}
 use Rattle.pktree.specs.Entries.{entries}
-use Rattle.pktree.proofs.Absurd.{zero-is-not-one}
 use Rattle.store.specs.declared.elements.Element.{Element}
 use Rattle.measures.specs.Slot.{slotPart}
 use Rattle.store.specs.Element.{elementAt}
@@ -15,10 +14,10 @@ use Rattle.store.specs.Placed.{Placed, forestOf}
 use Rattle.store.proofs.PlacedJoin.{forest-join}
 use Rattle.store.proofs.BlockView.{BlockView}
 use Rattle.store.proofs.OpenedSlot.{SlotOpened}
-use Rattle.store.proofs.PassedElements.{OneElement, is-pixel, is-block, Passed, none-passed, between, one-more-passed, all-passed}
+use Rattle.store.proofs.PassedElements.{OneElement, is-pixel, is-block, Passed, none-passed, between, one-more-passed}
 use Rattle.saving.specs.declared.Saving.{Saving}
 use Rattle.saving.specs.declared.Saved.{Saved}
-use Rattle.saving.specs.declared.Saved.the-variants.{Next, Damaged}
+use Rattle.saving.specs.declared.Saved.the-variants.{Next}
 use Rattle.saving.specs.Saving.{putEntry, EntriesPut, SaveElementMeets}
 use Rattle.pktree.proofs.EntryOrder.{entries-join}
 use Rattle.saving.proofs.EntryWrites.{put-entries-append}
@@ -75,19 +74,3 @@ module _ {saving : Saving} {words : List ℕ} {slot level code : ℕ} {before : 
             let next-is : next ≡ at + length (entries (forestOf f)) = cc (done .answer) in
             rw (forest-join f g) (entries-put-join done (element-entries meets is (omega (arith, between (λ f. length (entries f)) length-entries-join es f g h e)))));
       }
-
-  -- at the end all elements are passed
-  pub saved-all : {after : List ℕ} {count i : ℕ} {r : Saved} → SlotOpened (saving .layout .width) words slot level code count → count ≤ i
-      → SavedTo saving words slot level code before after at i r
-      → (k : ℕ) (es : Placed) → BlockView k (saving .layout .width) (saving .layout .slots) words slot level code es
-      → at + length (entries (forestOf es)) ≤ saving .entries → EntriesPut saving (forestOf es) before after at r
-  saved-all o end to k es view room =
-      all-passed o view (to .passed k es view room) end
-
-  -- an element that is found damaged is none of a sound store
-  pub saved-damaged : {after : List ℕ} {i : ℕ} → SavedTo saving words slot level code before after at i Damaged
-      → (k : ℕ) (es : Placed) → BlockView k (saving .layout .width) (saving .layout .slots) words slot level code es
-      → at + length (entries (forestOf es)) ≤ saving .entries → ⊥
-  saved-damaged to k es view room =
-      let p = to .passed k es view room in
-      zero-is-not-one (cc (p .done .answer))

@@ -3,7 +3,6 @@ use Prim.Native.Nat.{ℕ, _+_, _≤_, _<_}
 use native.Mathlib.Omega.{arith}
 use mathlib.Core.Path.{_≡_, ap, _∙_}
 use mathlib.Core.List.{List}
-use Rattle.pktree.proofs.Absurd.{zero-is-not-one}
 use Rattle.pktree.proofs.Forests.{blockCount, blockCount-join}
 use Rattle.store.specs.declared.elements.Element.{Element}
 use Rattle.measures.specs.declared.sizes.Layout.{Layout}
@@ -13,9 +12,9 @@ use Rattle.store.specs.Placed.{Placed, _⧻_, forestOf}
 use Rattle.store.proofs.PlacedJoin.{forest-join}
 use Rattle.store.proofs.BlockView.{BlockView}
 use Rattle.store.proofs.OpenedSlot.{SlotOpened}
-use Rattle.store.proofs.PassedElements.{OneElement, is-pixel, is-block, Passed, none-passed, between, one-more-passed, all-passed}
+use Rattle.store.proofs.PassedElements.{OneElement, is-pixel, is-block, Passed, none-passed, between, one-more-passed}
 use Rattle.saving.specs.declared.numbers.Tally.{Tally}
-use Rattle.saving.specs.declared.numbers.Tally.the-variants.{Blocks, Damaged}
+use Rattle.saving.specs.declared.numbers.Tally.the-variants.{Blocks}
 use Rattle.saving.specs.Tally.{Tallied, TallyElementMeets}
 
 -- the answer for the first i elements, after so many blocks
@@ -46,13 +45,3 @@ module _ {layout : Layout} {words : List ℕ} {slot level code opened : ℕ} whe
             let both : blockCount (forestOf (f ⧻ g)) ≡ blockCount (forestOf f) + blockCount (forestOf g) = ap blockCount (forest-join f g) ∙ blockCount-join (forestOf f) (forestOf g) in
             element-blocks meets is (omega (arith, between blockCount blockCount-join es f g h e)) ∙ ap Blocks (omega arith));
       }
-
-  module _ {i k : ℕ} {es : Placed} (view : BlockView k (layout .width) (layout .slots) words slot level code es) (room : opened + blockCount (forestOf es) ≤ layout .slots) where
-    -- at the end all elements are passed
-    pub tallied-all : {count : ℕ} {r : Tally} → SlotOpened (layout .width) words slot level code count → count ≤ i
-        → TalliedTo layout words slot level code opened i r → r ≡ Blocks (opened + blockCount (forestOf es))
-    tallied-all o end to = all-passed o view (to .passed k es view room) end
-
-    -- an element that is found damaged is none of a sound store
-    pub tallied-damaged : TalliedTo layout words slot level code opened i Damaged → ⊥
-    tallied-damaged to = zero-is-not-one (cc (to .passed k es view room .done))

@@ -3,6 +3,7 @@ use Prim.Native.Nat.{ℕ, _+_, _≤_}
 use native.Mathlib.Omega.{arith}
 use mathlib.Core.Path.{_≡_, refl, ap, _∙_}
 use mathlib.Core.List.{List}
+use Rattle.pktree.proofs.Absurd.{zero-is-not-one}
 use Rattle.store.specs.declared.elements.Element.{Element}
 use Rattle.store.specs.declared.elements.Element.the-variants.{Pixel, Block}
 use Rattle.measures.specs.declared.sizes.Layout.{Layout}
@@ -11,7 +12,8 @@ use Rattle.saving.specs.declared.numbers.Tally.{Tally}
 use Rattle.saving.specs.declared.numbers.Tally.the-variants.{Blocks, Damaged}
 use Rattle.saving.specs.Tally.{TallyMeets, TallyElementMeets}
 use Rattle.store.proofs.OpenedSlot.{SlotOpened, SlotShut, opened-not-shut, view-opens}
-use Rattle.saving.proofs.TalliedTo.{TalliedTo, tallied-all, tallied-damaged}
+use Rattle.store.proofs.PassedElements.{all-passed}
+use Rattle.saving.proofs.TalliedTo.{TalliedTo}
 
 module _ {layout : Layout} {words : List ℕ} {slot level code opened : ℕ} where
   -- as many blocks were opened as there are slots
@@ -24,7 +26,7 @@ module _ {layout : Layout} {words : List ℕ} {slot level code opened : ℕ} whe
 
   -- an element was found damaged
   pub tally-damaged : {i : ℕ} → TalliedTo layout words slot level code (opened + 1) i Damaged → TallyMeets layout words slot level code opened Damaged
-  tally-damaged to = record { bounds = tt; right = λ k es view room. absurd (tallied-damaged view (omega arith) to); closed = λ shut. refl }
+  tally-damaged to = record { bounds = tt; right = λ k es view room. zero-is-not-one (cc (to .passed k es view (omega arith) .done)); closed = λ shut. refl }
 
   -- the blocks of all elements are counted, after the block itself
   pub tally-whole : {count i n : ℕ} → SlotOpened (layout .width) words slot level code count → count ≤ i → n ≤ layout .slots
@@ -32,7 +34,7 @@ module _ {layout : Layout} {words : List ℕ} {slot level code opened : ℕ} whe
   tally-whole o end bound to =
       record {
         bounds = bound;
-        right = λ k es view room. tallied-all view (omega arith) o end to ∙ ap Blocks (omega arith);
+        right = λ k es view room. all-passed o view (to .passed k es view (omega arith)) end ∙ ap Blocks (omega arith);
         closed = λ shut. absurd (opened-not-shut o shut);
       }
 
