@@ -12,11 +12,11 @@ use Rattle.pktree.proofs.Forests.{blockCount, blockCount-join}
 use Rattle.pktree.proofs.Arranged.{LocallyRight}
 use Rattle.measures.specs.Sizes.{slotCount}
 use Rattle.measures.specs.Slot.{slotPart}
-use Rattle.store.specs.Placed.{Placed, nothing, pixelThen, blockThen, _⧻_, forestOf, slotsOf}
+use Rattle.store.specs.Placed.{Placed, nothing, blockThen, _⧻_, forestOf, slotsOf}
 use Rattle.store.specs.FreeSlots.{FreeSlots, occurrences}
 use Rattle.store.specs.Sound.{SlotsShared}
 use Rattle.store.proofs.Standing.{SlotSays, Stands}
-use Rattle.store.proofs.PlacedJoin.{forest-join}
+use Rattle.store.proofs.PlacedJoin.{forest-join, slots-are-blocks}
 use Rattle.store.proofs.SoundView.{slots-suffice}
 use Rattle.store.proofs.FreeChains.{occurrences-same, occurrences-other, occurrences-join}
 use Rattle.descent.specs.Way.{Frame, plug}
@@ -113,11 +113,6 @@ unfolding sum-of
 sum-all zero l h = refl
 sum-all (suc n) l h = omega (arith, h n (omega arith), sum-all n l (λ t p. h t (omega arith)))
 
-pub slots-of-blocks : (t : Placed) → length (slotsOf t) ≡ blockCount (forestOf t)
-slots-of-blocks nothing = refl
-slots-of-blocks (pixelThen c t) = slots-of-blocks t
-slots-of-blocks (blockThen s i c es t) = omega (arith, length-append (slotsOf es) (slotsOf t), slots-of-blocks es, slots-of-blocks t)
-
 -- where fewer blocks stand than there are slots, one is free
 pub some-free : (n : ℕ) (used free : List ℕ) → SlotsShared n used free → length used < n → free ≡ [] → ⊥
 some-free n used free h few e =
@@ -162,7 +157,7 @@ slot-for-block σ way s level code es fs free r lo hi right enough one pix share
     some-free (slotsIn σ) u free moved
     (omega (
       arith,
-      slots-of-blocks (plug way s level code es),
+      slots-are-blocks (plug way s level code es),
       plug-blocks way s level code es fs one,
       ap (λ (t : Placed). blockCount (forestOf t)) q,
       σ .slots-is,

@@ -5,6 +5,7 @@ use native.Mathlib.Nat.{div-div-eq-div-mul}
 use mathlib.Core.Path.{_≡_, ap, sym, _∙_}
 use mathlib.Core.List.{[], _∷_}
 use Rattle.pktree.specs.Image.{fourBytes}
+use Rattle.pktree.proofs.Images.{top-byte}
 
 -- one digit after another, from the low one on
 digits-join : (n q1 q2 q3 r0 r1 r2 : ℕ) → n ≡ 256 * q1 + r0 → q1 ≡ 256 * q2 + r1 → q2 ≡ 256 * q3 + r2
@@ -23,18 +24,12 @@ over-65536 n = sym (div-div-eq-div-mul n 256 256)
 over-16777216 : (n : ℕ) → n / 16777216 ≡ n / 256 / 256 / 256
 over-16777216 n = sym (div-div-eq-div-mul n 65536 256) ∙ ap (λ (q : ℕ). q / 256) (over-65536 n)
 
-top-digit : (n : ℕ) → n < 4294967296 → n / 256 / 256 / 256 < 256
-top-digit n h =
-    let u : n / 256 < 16777216 = omega arith in
-    let v : n / 256 / 256 < 65536 = omega (arith, u) in
-    omega (arith, v)
-
 -- a number is the sum of its four bytes
 pub four-bytes-sum : (n : ℕ) → n < 4294967296 → n % 256 + 256 * (n / 256 % 256) + 65536 * (n / 65536 % 256) + 16777216 * (n / 16777216 % 256) ≡ n
 four-bytes-sum n h =
     let q1 : ℕ = n / 256 in
     let q2 : ℕ = q1 / 256 in
-    rw (over-65536 n, over-16777216 n, last-digit (n / 256 / 256 / 256) (top-digit n h))
+    rw (over-65536 n, over-16777216 n, last-digit (n / 256 / 256 / 256) (top-byte n h))
     (digits-join n q1 q2 (q2 / 256) (n % 256) (q1 % 256) (q2 % 256) (split n) (split q1) (split q2))
 
 low-digit : (b q : ℕ) → b < 256 → (b + 256 * q) % 256 ≡ b

@@ -28,7 +28,7 @@ countIn-join l q empty g = omega arith
 countIn-join l q (pixel c f) g = omega (arith, countIn-join l q f g)
 countIn-join l q (block i c es f) g = omega (arith, countIn-join l q f g)
 
-indicator-le : (b : Bool) → indicator b ≤ 1
+pub indicator-le : (b : Bool) → indicator b ≤ 1
 indicator-le true = omega arith
 indicator-le false = omega arith
 

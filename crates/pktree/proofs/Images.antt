@@ -22,7 +22,7 @@ use Rattle.pktree.proofs.Absurd.{zero-is-not-one}
 digit : (a b : ℕ) → a % 256 ≡ b % 256 → a / 256 ≡ b / 256 → a ≡ b
 digit a b p q = omega arith
 
-top-byte : (a : ℕ) → a < 4294967296 → a / 256 / 256 / 256 < 256
+pub top-byte : (a : ℕ) → a < 4294967296 → a / 256 / 256 / 256 < 256
 top-byte a h =
     let u : a / 256 < 16777216 = omega arith in
     let v : a / 256 / 256 < 65536 = omega (arith, u) in

@@ -5,7 +5,6 @@ use native.Mathlib.Omega.{arith}
 use native.Mathlib.Nat.{pow-le-pow-right, eq-or-lt-of-le}
 use native.Mathlib.Decide.{decLt, decLe, ℕ-discrete}
 use mathlib.Core.Path.{_≡_, refl, ap, subst, sym, _∙_}
-use mathlib.Core.Bool.{Bool, true, false}
 use mathlib.Core.Logic.{_⊎_, inl, inr}
 use mathlib.Core.List.{List, _++_}
 use lib.Dec.{eqb}
@@ -16,7 +15,7 @@ use Rattle.pktree.specs.Elements.{Forest, empty, pixel, block, _⧺_, si
 use Rattle.pktree.specs.Tree.{pixels}
 use Rattle.pktree.proofs.Forests.{pixels-join}
 use Rattle.pktree.proofs.Alignment.{pow-pos, aligned-multiple, aligned-below, aligned-next, blocks-nest, blockCode, blockCode-aligned, blockCode-le, blockCode-lt, block-inside, block-of-blockCode}
-use Rattle.pktree.proofs.Counting.{indicator, countIn, Sparse, countIn-join, indicator-low, sparse-of-small}
+use Rattle.pktree.proofs.Counting.{indicator, indicator-le, countIn, Sparse, countIn-join, indicator-low, sparse-of-small}
 use Rattle.pktree.proofs.Arranged.{quarterLevel, Arranged, LocallyRight, arranged-join, countIn-all, countIn-after, countIn-before, size-in-range}
 use Rattle.pktree.proofs.LocalLaw.{local-is-gather}
 use Rattle.pktree.proofs.Sizes.{size-gather}
@@ -61,15 +60,11 @@ module _ (k n j q to : ℕ) (fits : q * 4 ^ j + 4 ^ j ≤ to) where
       big t u =
           let e : c ≤ q * 4 ^ j = same (decLt (q * 4 ^ j) c) in
           let w : 4 ^ j ≤ 4 ^ i = pow-le-pow-right (omega arith) u in
-          omega (arith, two (omega arith), countIn-after k n j q (c + 4 ^ i) to f (h .7) (omega arith), one (eqb (c / 4 ^ j) q))
+          omega (arith, two (omega arith), countIn-after k n j q (c + 4 ^ i) to f (h .7) (omega arith), indicator-le (eqb (c / 4 ^ j) q))
         where
           same : Dec (q * 4 ^ j < c) → c ≤ q * 4 ^ j
           same (yes v) = absurd (omega (arith, blocks-nest j j (q * 4 ^ j) c (omega arith) here (aligned-below j i c u (h .4)) v))
           same (no v) = omega arith
-
-          one : (b : Bool) → indicator b ≤ 1
-          one true = omega arith
-          one false = omega arith
 
       go : Dec (c < q * 4 ^ j + 4 ^ j) → Dec (i < j) → (c < q * 4 ^ j + 4 ^ j → i < j → Tail k n j q (c + 4 ^ i) to f) → Tail k n j q from to (block i c es f)
       go (yes t) (yes u) s =

@@ -5,11 +5,12 @@ use native.Mathlib.Omega.{arith}
 use mathlib.Core.Path.{_≡_, _∙_}
 use mathlib.Core.List.{List, [], _∷_, _++_, append-assoc}
 use lib.ListN.{length, take, drop, set, length-drop, length-set}
-use lib.Seq.{paste, length-paste, take-paste, drop-drop, take-take, take-all, take-at, take-suc-set, length-take-le}
+use lib.Seq.{paste, length-paste, take-paste, drop-drop, take-take, take-all, take-suc-set, length-take-le}
 use Rattle.measures.specs.declared.sizes.Layout.{Layout}
 use Rattle.measures.specs.Layout.{LayoutFits}
 use Rattle.measures.specs.Slot.{slotPart, countWord}
 use Rattle.store.specs.Splice.{elementsIn}
+use Rattle.store.proofs.Splices.{take-paste-front}
 use Rattle.measures.proofs.SlotWrites.{drop-take}
 use Rattle.measures.proofs.Usable.{slot-long}
 use Rattle.rewrite.specs.Rewrite.{RunWithin, CanCut, runWords, withBlock}
@@ -52,15 +53,11 @@ run-pasted part target at first size run c =
     let there : 2 * size ≤ length part - (8 + 2 * first) = omega (arith, run .laid, run .within) in
     rw (c, h, take-take (2 * size) (length part - (8 + 2 * first)) (drop (8 + 2 * first) part) there, take-take (2 * size) (2 * size) (drop (8 + 2 * first) part) (omega arith))
 
--- words copied to the front are found there
-copied-front : (target source : List ℕ) (n : ℕ) → n ≤ length source → take n (paste target 0 source n) ≡ take n source
-copied-front target source n h = take-at (take n source) _ n (length-take-le n source h)
-
--- so is a run
+-- a run copied to the front is found there
 pub run-copied : (part target : List ℕ) (first size : ℕ) {copied : List ℕ} → RunWithin part first size → copied ≡ paste target 0 (runWords (elementsIn part) first size) (2 * size)
     → take (2 * size) copied ≡ runWords (elementsIn part) first size
 run-copied part target first size run c =
-    rw (c, copied-front target (runWords (elementsIn part) first size) (2 * size) (omega (arith, run-long part first size run))) (run-whole (elementsIn part) first size)
+    rw (c, take-paste-front target (runWords (elementsIn part) first size) (2 * size) (omega (arith, run-long part first size run))) (run-whole (elementsIn part) first size)
 
 -- a run has room in every slot
 pub run-fits : {layout : Layout} {words : List ℕ} {slot first size : ℕ} → LayoutFits layout words → slot < layout .slots
@@ -79,7 +76,7 @@ laid-around scratch front behind m n code name {copied} {after} hf hb room c a =
     let long : length copied ≡ length scratch = rw c (length-paste scratch 0 front m (omega arith) hf) in
     let two : m + 2 ≡ suc (suc m) = omega arith in
     let named : take (m + 2) (set (set copied m code) (m + 1) name) ≡ (take m front ++ (code ∷ [])) ++ (name ∷ []) =
-    rw (two, add-one, take-suc-set (set copied m code) (suc m) name (simp length-set (omega arith)), take-suc-set copied m code (omega arith), c, copied-front scratch front m hf) in
+    rw (two, add-one, take-suc-set (set copied m code) (suc m) name (simp length-set (omega arith)), take-suc-set copied m code (omega arith), c, take-paste-front scratch front m hf) in
     rw (a, take-paste (set (set copied m code) (m + 1) name) (m + 2) behind n (simp length-set (omega arith)) hb, named) (simp append-assoc)
 
 -- the elements beside a run, with one in its place, where the code lays them in the scratch

@@ -1,8 +1,8 @@
 -- What a slot says: the words of placed elements, what was written anew, or what a splice left.
 use Prim.Native.Nat.{ℕ, _+_, _-_, _*_, _≤_, _<_}
 use native.Mathlib.Omega.{arith}
-use mathlib.Core.Path.{_≡_, refl, ap, sym, _∙_}
-use mathlib.Core.List.{List, [], _∷_, _++_, append-assoc}
+use mathlib.Core.Path.{_≡_, ap, sym, _∙_}
+use mathlib.Core.List.{List, _++_, append-assoc}
 use lib.ListN.{length, getD, take, drop, set, length-drop, List·getD-append}
 use lib.Seq.{paste, length-paste, take-at, drop-at, length-take-le, getD-take, getD-set-same, getD-set-other, drop-set-lt}
 use Rattle.pktree.specs.Elements.{size}
@@ -11,6 +11,7 @@ use Rattle.store.specs.Splice.{elementsIn, CanSplice, Spliced, withHeader}
 use Rattle.store.specs.Placed.{Placed, forestOf}
 use Rattle.store.proofs.Standing.{elementWords, SlotSays}
 use Rattle.store.proofs.PlacedJoin.{length-element-words}
+use Rattle.store.proofs.Emptied.{header-says}
 use Rattle.rewrite.specs.Rewrite.{SlotNow}
 
 -- a slot that says placed elements says their words
@@ -31,15 +32,6 @@ now-says {part} {es = es} s =
 -- the elements that a slot has room for are all there
 pub elements-long : (part : List ℕ) → 8 + 2 * countWord part ≤ length part → length (elementsIn part) ≡ 2 * countWord part
 elements-long part laid = length-take-le _ _ (omega (arith, length-drop 8 part))
-
--- a header says what it was set to
-header-says : (part : List ℕ) (level code count : ℕ) → 3 ≤ length part
-    → (levelWord (withHeader part level code count) ≡ level) × (codeWord (withHeader part level code count) ≡ code)
-    × (countWord (withHeader part level code count) ≡ count)
-header-says [] level code count h = absurd (omega arith)
-header-says (a ∷ []) level code count h = absurd (omega arith)
-header-says (a ∷ b ∷ []) level code count h = absurd (omega arith)
-header-says (a ∷ b ∷ c ∷ part) level code count h = (refl, refl, refl)
 
 -- elements copied to their place leave the header
 pub header-kept : (part source : List ℕ) (n : ℕ) → 8 ≤ length part → countWord (paste part 8 source n) ≡ countWord part

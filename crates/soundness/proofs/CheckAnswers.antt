@@ -28,7 +28,7 @@ use Rattle.soundness.specs.Chain.{ChainOf, ChainEnds}
 use Rattle.soundness.specs.Walk.{BlockWalked, NoneClaimed}
 use Rattle.soundness.proofs.OneReading.{one-reading}
 use Rattle.soundness.proofs.SlotTotals.{shared-length, shared-of-length}
-use Rattle.soundness.proofs.SlotsOnce.{slots-are-blocks}
+use Rattle.store.proofs.PlacedJoin.{slots-are-blocks}
 use Rattle.soundness.proofs.RootSlots.{root-slots-once}
 use Rattle.soundness.proofs.RootWalks.{rootClaim, noneSeen, rootLimits, tested-exactly, sound-root}
 

@@ -2,12 +2,10 @@
 use Prim.Native.Nat.{ℕ, suc, _+_, _^_, _≤_, _<_}
 use native.Mathlib.Omega.{arith}
 use native.Mathlib.Decide.{ℕ-discrete, decLe}
-use mathlib.Core.Path.{_≡_, refl, ap, sym, _∙_}
+use mathlib.Core.Path.{_≡_, ap, sym, _∙_}
 use mathlib.Core.List.{List, [], _∷_, _++_}
-use lib.ListN.{length, length-append}
 use Rattle.pktree.specs.Lists.{Every}
 use Rattle.pktree.proofs.Alignment.{pow-pos}
-use Rattle.pktree.proofs.Forests.{blockCount}
 use Rattle.pktree.proofs.Arranged.{Arranged, arranged-le}
 use Rattle.measures.specs.Slot.{slotPart, levelWord, codeWord, nextWord}
 use Rattle.store.specs.Placed.{Placed, nothing, pixelThen, blockThen, forestOf, slotsOf}
@@ -15,12 +13,6 @@ use Rattle.store.specs.FreeSlots.{noSlot, FreeChain, occurrences}
 use Rattle.store.proofs.Standing.{Stands, every-join}
 use Rattle.store.proofs.FreeChains.{every-map, first-once, occurrences-same, occurrences-other, occurrences-join}
 use Rattle.soundness.proofs.SlotTotals.{every-occurs}
-
--- each block has one slot
-pub slots-are-blocks : (t : Placed) → length (slotsOf t) ≡ blockCount (forestOf t)
-slots-are-blocks nothing = refl
-slots-are-blocks (pixelThen c t) = slots-are-blocks t
-slots-are-blocks (blockThen s i c es t) = omega (arith, length-append (slotsOf es) (slotsOf t), slots-are-blocks es, slots-are-blocks t)
 
 module _ (width : ℕ) (words : List ℕ) where
   -- the header of a slot: a level from 1 to below n, a code from `from` to below `to`

@@ -103,6 +103,11 @@ pub record ArrangedBlock (k n from to i c : ℕ) (fs : Forest) : Type 0 where
   pub aligned : Aligned i c
   pub right : LocallyRight k i c fs
 
+-- in a wider range
+from-lower : {k n from lo to i c : ℕ} {fs : Forest} → from ≤ lo → ArrangedBlock k n lo to i c fs → ArrangedBlock k n from to i c fs
+from-lower p r =
+    record { starts = omega (arith, r .starts); ends = r .ends; below = r .below; level-from = r .level-from; many = r .many; aligned = r .aligned; right = r .right }
+
 pub arranged-block : (k n from to i c : ℕ) (a fs b : Forest) → Arranged k n from to (a ⧺ block i c fs b) → ArrangedBlock k n from to i c fs
 arranged-block k n from to i c empty fs b h =
     record {
@@ -114,16 +119,8 @@ arranged-block k n from to i c empty fs b h =
       aligned = h .4;
       right = record { arranged = h .6; sparse = h .5 };
     }
-arranged-block k n from to i c (pixel d a) fs b h = lower (suc d) (omega (arith, h .0)) (arranged-block k n (suc d) to i c a fs b (h .1))
-  where
-    lower : (lo : ℕ) → from ≤ lo → ArrangedBlock k n lo to i c fs → ArrangedBlock k n from to i c fs
-    lower lo p r =
-        record { starts = omega (arith, r .starts); ends = r .ends; below = r .below; level-from = r .level-from; many = r .many; aligned = r .aligned; right = r .right }
-arranged-block k n from to i c (block j d gs a) fs b h = lower (d + 4 ^ j) (omega (arith, h .0)) (arranged-block k n (d + 4 ^ j) to i c a fs b (h .7))
-  where
-    lower : (lo : ℕ) → from ≤ lo → ArrangedBlock k n lo to i c fs → ArrangedBlock k n from to i c fs
-    lower lo p r =
-        record { starts = omega (arith, r .starts); ends = r .ends; below = r .below; level-from = r .level-from; many = r .many; aligned = r .aligned; right = r .right }
+arranged-block k n from to i c (pixel d a) fs b h = from-lower (omega (arith, h .0)) (arranged-block k n (suc d) to i c a fs b (h .1))
+arranged-block k n from to i c (block j d gs a) fs b h = from-lower (omega (arith, h .0)) (arranged-block k n (d + 4 ^ j) to i c a fs b (h .7))
 
 -- the block that an element names
 pub record ChildView (k width slots : ℕ) (words : List ℕ) (level code s i c : ℕ) (fs : Placed) : Type 0 where

@@ -1,11 +1,11 @@
--- Placed elements joined: what each reading of them says of the two parts.
+-- Placed elements joined: what each reading of them says of the two parts; and that each block has one slot.
 use Prim.Native.Nat.{ℕ, _+_, _*_}
 use native.Mathlib.Omega.{arith}
 use mathlib.Core.Path.{_≡_, refl, ap, _∙_}
 use mathlib.Core.List.{List, _++_, append-assoc}
-use lib.ListN.{length}
+use lib.ListN.{length, length-append}
 use Rattle.pktree.specs.Elements.{_⧺_, size}
-use Rattle.pktree.proofs.Forests.{size-join}
+use Rattle.pktree.proofs.Forests.{size-join, blockCount}
 use Rattle.store.specs.Placed.{Placed, nothing, pixelThen, blockThen, _⧻_, forestOf, slotsOf}
 use Rattle.store.proofs.Standing.{elementWords, Stands}
 
@@ -28,6 +28,12 @@ pub slots-join : (a b : Placed) → slotsOf (a ⧻ b) ≡ slotsOf a ++ slotsOf b
 slots-join nothing b = refl
 slots-join (pixelThen c a) b = slots-join a b
 slots-join (blockThen s i c es a) b = rw (slots-join a b, append-assoc (slotsOf es) (slotsOf a) (slotsOf b))
+
+-- each block has one slot
+pub slots-are-blocks : (t : Placed) → length (slotsOf t) ≡ blockCount (forestOf t)
+slots-are-blocks nothing = refl
+slots-are-blocks (pixelThen c t) = slots-are-blocks t
+slots-are-blocks (blockThen s i c es t) = omega (arith, length-append (slotsOf es) (slotsOf t), slots-are-blocks es, slots-are-blocks t)
 
 pub words-join : (a b : Placed) → elementWords (a ⧻ b) ≡ elementWords a ++ elementWords b
 words-join nothing b = refl

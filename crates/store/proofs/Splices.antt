@@ -10,7 +10,7 @@ use Rattle.store.specs.Splice.{elementsIn, CanSplice, Spliced}
 use Rattle.measures.proofs.SlotWrites.{drop-take}
 
 -- a copy to the front is found there
-take-paste-front : (d a : List ℕ) (n : ℕ) → n ≤ length a → take n (paste d 0 a n) ≡ take n a
+pub take-paste-front : (d a : List ℕ) (n : ℕ) → n ≤ length a → take n (paste d 0 a n) ≡ take n a
 take-paste-front d a n h = take-at (take n a) (drop (0 + n) d) n (length-take-le n a h)
 
 -- words moved by way of others
