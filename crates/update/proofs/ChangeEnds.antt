@@ -35,7 +35,7 @@ use Rattle.descent.proofs.OpenedByPixel.{marked-exactly}
 use Rattle.step.specs.declared.Change.{Change}
 use Rattle.update.specs.declared.marks.Marking.the-variants as marking
 use Rattle.update.specs.declared.marks.Clearing.the-variants as clearing
-use Rattle.update.specs.Changed.{MarkAnswer, ClearAnswer}
+use Rattle.update.specs.Changed.{changed, unchanged, damaged, ChangeAnswer, MarkAnswer, ClearAnswer}
 use Rattle.step.specs.Step.{Kept}
 use Rattle.update.specs.Propagate.{CanPropagate, PropagateMeets}
 use Rattle.update.proofs.ChangeBegins.{settingOf, Begins, mark-begins, clear-begins}
@@ -123,11 +123,12 @@ module _ {before slots places : List ℕ} {sizes : Sizes} {layout : Layout} {cod
     found : (located .damaged ≡ false) × LocatedIn before (h .placed) code slots places located
     found = u .meets .sound (h .placed) (h .sound) layout-is order-is (u .on-panel)
 
-    marked-is : member was code ≡ located .marked
-    marked-is = ap (λ (l : List ℕ). member l code) (sym (h .set-is)) ∙ marked-exactly (h .sound) (found .1)
-
     count-is : getD before 6 0 ≡ length was
     count-is = h .sound .counted ∙ ap length (h .set-is)
+
+  -- the pixel is in the set where it was found marked
+  pub as-located : {marked : Bool} → located .marked ≡ marked → (was : List ℕ) → Holds before was → member was code ≡ marked
+  as-located e was h = ap (λ (l : List ℕ). member l code) (sym (h .set-is)) ∙ marked-exactly (h .sound) (found was h .1) ∙ e
 
   -- a store that cannot be opened at its root is told
   opens : located .damaged ≡ false → CannotOpen (slotWidth (getD before 2 0)) before 0 (getD before 1 0) 0 → ⊥
@@ -143,42 +144,35 @@ module _ {before slots places : List ℕ} {sizes : Sizes} {layout : Layout} {cod
     past-then : drop (storeWords (sizesOf before)) (set mid i v) ≡ drop (storeWords (sizesOf before)) before
     past-then = drop-set-lt (storeWords (sizesOf before)) mid i v (omega arith) ∙ subst (λ (z : Layout). Kept z before mid) layout-is kept .past
 
-  -- word 0 written zero
-  unmarked-then : {mid : List ℕ} → Kept layout before mid → getD (set mid 0 0) 0 0 ≡ 0
-  unmarked-then {mid} kept = getD-set-same mid 0 0 0 (omega (arith, kept .long, u .usable .long))
-
   -- the descent ends well on a sound store
   pub never-damaged : located .damaged ≡ true → (was : List ℕ) → Holds before was → ⊥
   never-damaged e was h =
       let f : located .damaged ≡ false = found was h .0 in
       zero-is-not-one (cc)
 
-  pub mark-damaged : {mid : List ℕ} → Kept layout before mid → ((was : List ℕ) → Holds before was → ⊥) → MarkAnswer before (set mid 0 0) code marking.Damaged
-  mark-damaged kept never =
-      record { sound = never; leaves = unmarked-then kept; closed = λ shut. refl; long = long-then kept 0 0 (omega arith); past = past-then kept 0 0 (omega arith) }
-
-  pub clear-damaged : {mid : List ℕ} → Kept layout before mid → ((was : List ℕ) → Holds before was → ⊥) → ClearAnswer before (set mid 0 0) code clearing.Damaged
-  clear-damaged kept never =
-      record { sound = never; leaves = unmarked-then kept; closed = λ shut. refl; long = long-then kept 0 0 (omega arith); past = past-then kept 0 0 (omega arith) }
+  -- word 0 is written zero, on a store that holds no set
+  pub damaged-end : {mid : List ℕ} → Kept layout before mid → ((was : List ℕ) → Holds before was → ⊥) → ChangeAnswer (λ was. ⊥) before (set mid 0 0) damaged
+  damaged-end {mid} kept never =
+      record {
+        sound = never;
+        leaves = getD-set-same mid 0 0 0 (omega (arith, kept .long, u .usable .long));
+        closed = λ shut. refl;
+        long = long-then kept 0 0 (omega arith);
+        past = past-then kept 0 0 (omega arith);
+      }
 
   module _ (whole : located .damaged ≡ false) where
-    pub mark-already : located .marked ≡ true → MarkAnswer before before code marking.Already
-    mark-already e =
-        record { sound = λ was h. (marked-is was h ∙ e, refl); leaves = refl; closed = λ shut. absurd (opens whole shut); long = refl; past = refl }
+    pub unchanged-end : {Case : List ℕ → Type 0} → ((was : List ℕ) → Holds before was → Case was) → ChangeAnswer Case before before unchanged
+    unchanged-end sound = record { sound = sound; leaves = refl; closed = λ shut. absurd (opens whole shut); long = refl; past = refl }
 
     pub mark-full : located .marked ≡ false → sizes .most ≤ getD before 6 0 → MarkAnswer before before code marking.Full
-    mark-full e full =
-        record {
-          sound = λ was h. (marked-is was h ∙ e, omega (arith, count-is was h, most-is), refl);
-          leaves = refl;
-          closed = λ shut. absurd (opens whole shut);
-          long = refl;
-          past = refl;
-        }
+    mark-full e full = unchanged-end (λ was h. (as-located e was h, omega (arith, count-is was h, most-is), refl))
 
-    pub clear-unmarked : located .marked ≡ false → ClearAnswer before before code clearing.Unmarked
-    clear-unmarked e =
-        record { sound = λ was h. (marked-is was h ∙ e, refl); leaves = refl; closed = λ shut. absurd (opens whole shut); long = refl; past = refl }
+    -- the new count is written
+    changed-end : {Case : List ℕ → Type 0} {mid : List ℕ} (count : ℕ) → Kept layout before mid → ((was : List ℕ) → Holds before was → Case was)
+        → ChangeAnswer Case before (set mid 6 count) changed
+    changed-end count kept sound =
+        record { sound = sound; leaves = tt; closed = λ shut. absurd (opens whole shut); long = long-then kept 6 count (omega arith); past = past-then kept 6 count (omega arith) }
 
   -- a pixel that is there is counted
   pub never-uncounted : located .marked ≡ true → getD before 6 0 ≡ 0 → (was : List ℕ) → Holds before was → ⊥
@@ -219,7 +213,7 @@ module _ {before slots places : List ℕ} {sizes : Sizes} {layout : Layout} {cod
         (record { layout-is = layout-is; k-is = k-is ∙ ap (λ (z : Sizes). z .k) (u .sizes-are); x-is = refl }) (b .pending) in
         rw n (told, holds-target before mid (h .sound .usable) code target (b .few) kept rest, sizes-stay before mid (h .sound .usable) code target (b .few) kept)
 
-    mark-propagates : {mid : List ℕ} {r : Bool} → PropagateMeets change located slots places 0 1 before mid r → located .marked ≡ false → getD before 6 0 < sizes .most → (was : List ℕ) → Holds before was
+    pub mark-propagates : {mid : List ℕ} {r : Bool} → PropagateMeets change located slots places 0 1 before mid r → located .marked ≡ false → getD before 6 0 < sizes .most → (was : List ℕ) → Holds before was
         → (r ≡ true) × Holds (set mid 6 (getD before 6 0 + 1)) (added code was) × (sizesOf (set mid 6 (getD before 6 0 + 1)) ≡ sizesOf before)
     mark-propagates {mid} s out room was h =
         let b = mark-begins before (h .placed) (h .sound) code located (found was h .1) out (omega (arith, h .sound .counted, most-is)) in
@@ -229,7 +223,7 @@ module _ {before slots places : List ℕ} {sizes : Sizes} {layout : Layout} {cod
         sym (added-at-place code 0 (b .left) (b .right) (held-is-set _ _ holds .ascending)) ∙ ap (added code) (sym (b .set-was) ∙ h .set-is) in
         (told, subst (Holds (set mid 6 (getD before 6 0 + 1))) set-is holds, same)
 
-    clear-propagates : {mid : List ℕ} {r : Bool} → PropagateMeets change located slots places 1 0 before mid r → located .marked ≡ true → (was : List ℕ) → Holds before was
+    pub clear-propagates : {mid : List ℕ} {r : Bool} → PropagateMeets change located slots places 1 0 before mid r → located .marked ≡ true → (was : List ℕ) → Holds before was
         → (r ≡ true) × Holds (set mid 6 (getD before 6 0 - 1)) (removed code was) × (sizesOf (set mid 6 (getD before 6 0 - 1)) ≡ sizesOf before)
     clear-propagates {mid} s e was h =
         let b = clear-begins before (h .placed) (h .sound) code located (found was h .1) e in
@@ -240,35 +234,13 @@ module _ {before slots places : List ℕ} {sizes : Sizes} {layout : Layout} {cod
         sym (removed-at-place code 0 (b .left) (b .right) (subst (PixelSet (panelOf (sizesOf before))) q (held-is-set before was h) .ascending)) ∙ ap (removed code) (sym q) in
         (told, subst (Holds (set mid 6 (getD before 6 0 - 1))) set-is holds, same)
 
-    -- and it comes to rest on a sound store
-    pub mark-never-fails : {mid : List ℕ} → PropagateMeets change located slots places 0 1 before mid false → located .marked ≡ false → getD before 6 0 < sizes .most → (was : List ℕ) → Holds before was → ⊥
-    mark-never-fails s e room was h =
-        let t : false ≡ true = mark-propagates s e room was h .0 in
-        zero-is-not-one (cc)
-
-    pub clear-never-fails : {mid : List ℕ} → PropagateMeets change located slots places 1 0 before mid false → located .marked ≡ true → (was : List ℕ) → Holds before was → ⊥
-    clear-never-fails s e was h =
-        let t : false ≡ true = clear-propagates s e was h .0 in
-        zero-is-not-one (cc)
-
     module _ (whole : located .damaged ≡ false) {mid : List ℕ} where
       pub mark-completed : located .marked ≡ false → getD before 6 0 < sizes .most → PropagateMeets change located slots places 0 1 before mid true
           → MarkAnswer before (set mid 6 (getD before 6 0 + 1)) code marking.Marked
       mark-completed e room s =
-          record {
-            sound = λ was h. let t = mark-propagates s e room was h in (marked-is was h ∙ e, omega (arith, count-is was h, most-is), t .1, t .2);
-            leaves = tt;
-            closed = λ shut. absurd (opens whole shut);
-            long = long-then (s .kept) 6 (getD before 6 0 + 1) (omega arith);
-            past = past-then (s .kept) 6 (getD before 6 0 + 1) (omega arith);
-          }
+          changed-end whole (getD before 6 0 + 1) (s .kept)
+          (λ was h. let t = mark-propagates s e room was h in (as-located e was h, omega (arith, count-is was h, most-is), t .1, t .2))
 
       pub clear-completed : located .marked ≡ true → PropagateMeets change located slots places 1 0 before mid true → ClearAnswer before (set mid 6 (getD before 6 0 - 1)) code clearing.Cleared
       clear-completed e s =
-          record {
-            sound = λ was h. let t = clear-propagates s e was h in (marked-is was h ∙ e, t .1, t .2);
-            leaves = tt;
-            closed = λ shut. absurd (opens whole shut);
-            long = long-then (s .kept) 6 (getD before 6 0 - 1) (omega arith);
-            past = past-then (s .kept) 6 (getD before 6 0 - 1) (omega arith);
-          }
+          changed-end whole (getD before 6 0 - 1) (s .kept) (λ was h. let t = clear-propagates s e was h in (as-located e was h, t .1, t .2))

@@ -1,6 +1,7 @@
 -- `register::clear` meets its contract: `judge_pixel` decides 3 and 4, and each end of the change is passed on with its number.
 use mathlib.Core.Path.{refl}
 use borrow.Author.Needs.{needs}
+use Rattle.refusals.specs.Judged.{PixelGiven}
 use Rattle.register.proofs.Changes.{clear-refused, clear-done, clear-unmarked, clear-damaged}
 use Rattle.register.proofs.clear.Statement.{statement}
 use Rattle.register.proofs.clear.Tie as tie
@@ -12,34 +13,28 @@ clear-requires c κs =
     ((p .usable, p .sizes-are), p .code-on-panel)
 
 returns : tie.Need-returns
-returns c =
-    let j = c .before .before .before in
-    let a = j .before .before .before .args in
-    clear-refused (a .store .now) _ (a .x) (a .y) _ (rw (c .before .number .given .1) at (j .judge-pixel .ensures)) refl
+returns c = clear-refused _ (rw (c .before .number .given .1) at (c .before .before .before .judge-pixel .ensures)) refl
+
+-- the pixel that was judged
+pixel : (c : tie.After-clear) → (let s = c .before .before .before in
+    let a = s .before .before .before .before .before .args in
+    PixelGiven (a .store .now) (a .x) (a .y) (s .sizes .given .0 .0) (s .sizes .given .0 .1 .0))
+pixel c = let s = c .before .before .before in rw (s .sizes .given .1) at (s .before .before .judge-pixel .ensures)
 
 returns-2 : tie.Need-returns-2
 returns-2 c =
     let m = c .before .before .before .before in
-    let s = m .before .before .before in
-    let j = s .before .before in
-    let a = j .before .before .before .args in
-    clear-done (a .store .now) _ (a .x) (a .y) _ _ (rw (s .sizes .given .1) at (j .judge-pixel .ensures)) (rw (c .enum-told .given .1) at (m .clear .ensures))
+    clear-done (pixel m) (rw (c .enum-told .given .1, pixel m .code-is) at (m .clear .ensures))
 
 returns-3 : tie.Need-returns-3
 returns-3 c =
     let m = c .before .before .before .before in
-    let s = m .before .before .before in
-    let j = s .before .before in
-    let a = j .before .before .before .args in
-    clear-unmarked (a .store .now) _ (a .x) (a .y) _ _ (rw (s .sizes .given .1) at (j .judge-pixel .ensures)) (rw (c .enum-told2 .given .1) at (m .clear .ensures))
+    clear-unmarked (pixel m) (rw (c .enum-told2 .given .1, pixel m .code-is) at (m .clear .ensures))
 
 returns-4 : tie.Need-returns-4
 returns-4 c =
     let m = c .before .before .before .before in
-    let s = m .before .before .before in
-    let j = s .before .before in
-    let a = j .before .before .before .args in
-    clear-damaged (a .store .now) _ (a .x) (a .y) _ _ (rw (s .sizes .given .1) at (j .judge-pixel .ensures)) (rw (c .enum-told3 .given .1) at (m .clear .ensures))
+    clear-damaged (pixel m) (rw (c .enum-told3 .given .1, pixel m .code-is) at (m .clear .ensures))
 
 pub clear-spec : {M : Type 1} → statement M
 clear-spec =

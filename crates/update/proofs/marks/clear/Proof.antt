@@ -5,9 +5,10 @@ use mathlib.Core.Path.{refl}
 use lib.ListN.{length}
 use borrow.Author.Needs.{needs}
 use borrow.Author.Tests.{not-true, not-false}
+use Rattle.pktree.proofs.Absurd.{zero-is-not-one}
 use Rattle.measures.proofs.Usable.{layout-fits}
 use Rattle.step.proofs.RegroupEnds.{kept-same}
-use Rattle.update.proofs.ChangeEnds.{LookedUp, never-damaged, never-uncounted, clear-damaged, clear-unmarked, can-propagate, clear-never-fails, clear-completed}
+use Rattle.update.proofs.ChangeEnds.{LookedUp, never-damaged, never-uncounted, as-located, damaged-end, unchanged-end, can-propagate, clear-propagates, clear-completed}
 use Rattle.update.proofs.marks.clear.Statement.{statement}
 use Rattle.update.proofs.marks.clear.Tie as tie
 
@@ -34,16 +35,19 @@ looked-up c =
     record { usable = s .pre .0 .0; sizes-are = s .pre .0 .1; on-panel = s .pre .1; laid = l .layout-of .ensures; meets = c .locate .ensures }
 
 returns : tie.Need-returns
-returns c = let u = looked-up (c .before) in clear-damaged u (kept-same _ _ _ refl) (never-damaged u (c .if1 .taken))
+returns c = let u = looked-up (c .before) in damaged-end u (kept-same _ _ _ refl) (never-damaged u (c .if1 .taken))
 
 returns-2 : tie.Need-returns-2
-returns-2 c = let whole = c .before .before in clear-unmarked (looked-up (whole .before)) (whole .if1 .left) (not-true _ (c .if2 .taken))
+returns-2 c =
+    let whole = c .before .before in
+    let u = looked-up (whole .before) in
+    unchanged-end u (whole .if1 .left) (λ was h. (as-located u (not-true _ (c .if2 .taken)) was h, refl))
 
 returns-3 : tie.Need-returns-3
 returns-3 c =
     let there = c .before .before in
     let u = looked-up (there .before .before .before) in
-    clear-damaged u (kept-same _ _ _ refl) (never-uncounted u (not-false _ (there .if2 .left)) (c .if3 .taken))
+    damaged-end u (kept-same _ _ _ refl) (never-uncounted u (not-false _ (there .if2 .left)) (c .if3 .taken))
 
 propagate-requires : tie.Need-propagate-requires
 propagate-requires c κs =
@@ -63,7 +67,7 @@ returns-4 c =
     let there = after .before .before .before .before .before .before .before in
     let u = looked-up (there .before .before .before) in
     let s = rw (not-true (after .propagate .result) (c .if4 .taken)) at (after .propagate .ensures) in
-    clear-damaged u (s .kept) (clear-never-fails u (after .before .before .before .before .wide .ensures) s (not-false _ (there .if2 .left)))
+    damaged-end u (s .kept) (λ was h. zero-is-not-one (cc (clear-propagates u (after .before .before .before .before .wide .ensures) s (not-false _ (there .if2 .left)) was h .0)))
 
 returns-5 : tie.Need-returns-5
 returns-5 c =

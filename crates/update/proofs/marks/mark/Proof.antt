@@ -5,9 +5,10 @@ use mathlib.Core.Path.{refl}
 use lib.ListN.{length}
 use borrow.Author.Needs.{needs}
 use borrow.Author.Tests.{not-true, not-false}
+use Rattle.pktree.proofs.Absurd.{zero-is-not-one}
 use Rattle.measures.proofs.Usable.{layout-fits}
 use Rattle.step.proofs.RegroupEnds.{kept-same}
-use Rattle.update.proofs.ChangeEnds.{LookedUp, never-damaged, mark-damaged, mark-already, mark-full, can-propagate, mark-never-fails, mark-completed}
+use Rattle.update.proofs.ChangeEnds.{LookedUp, never-damaged, as-located, damaged-end, unchanged-end, mark-full, can-propagate, mark-propagates, mark-completed}
 use Rattle.update.proofs.marks.mark.Statement.{statement}
 use Rattle.update.proofs.marks.mark.Tie as tie
 
@@ -34,10 +35,10 @@ looked-up c =
     record { usable = s .pre .0 .0; sizes-are = s .pre .0 .1; on-panel = s .pre .1; laid = l .layout-of .ensures; meets = c .locate .ensures }
 
 returns : tie.Need-returns
-returns c = let u = looked-up (c .before) in mark-damaged u (kept-same _ _ _ refl) (never-damaged u (c .if1 .taken))
+returns c = let u = looked-up (c .before) in damaged-end u (kept-same _ _ _ refl) (never-damaged u (c .if1 .taken))
 
 returns-2 : tie.Need-returns-2
-returns-2 c = mark-already (looked-up (c .before .before)) (c .before .if1 .left) (c .if2 .taken)
+returns-2 c = let u = looked-up (c .before .before) in unchanged-end u (c .before .if1 .left) (λ was h. (as-located u (c .if2 .taken) was h, refl))
 
 returns-3 : tie.Need-returns-3
 returns-3 c =
@@ -63,7 +64,7 @@ returns-4 c =
     let free = room .before .before .before in
     let u = looked-up (free .before .before) in
     let s = rw (not-true (after .propagate .result) (c .if4 .taken)) at (after .propagate .ensures) in
-    mark-damaged u (s .kept) (mark-never-fails u (after .before .before .before .before .wide .ensures) s (free .if2 .left) (room .if3 .left))
+    damaged-end u (s .kept) (λ was h. zero-is-not-one (cc (mark-propagates u (after .before .before .before .before .wide .ensures) s (free .if2 .left) (room .if3 .left) was h .0)))
 
 returns-5 : tie.Need-returns-5
 returns-5 c =
