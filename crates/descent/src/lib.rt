@@ -29,7 +29,7 @@ pub struct Child {
 }
 
 // 01: anything that isn't a block ends the descent there.
-pub fn look(part: &[u32], count: usize, code: u32) -> Ahead
+fn look(part: &[u32], count: usize, code: u32) -> Ahead
     requires { ⌜ (8 + 2 * count ≤ length (now part)) × (count ≤ 75) ⌝ }
     ensures { λ r. ⌜ Looked (now (part .entry)) count code r ⌝ }
 {

@@ -20,7 +20,7 @@ pub struct Encoded {
 }
 
 // list, with an output of its own.
-pub fn list_step(store: &[u32], call: Encoded)
+fn list_step(store: &[u32], call: Encoded)
     ensures { λ _. ⌜ Step (list (call .a) (call .b) (call .c) (call .d) (zeros (call .e) 16)) (now (store .entry)) (now (store .entry)) ⌝ }
 {
     let mut output = [0u32; 16];
@@ -29,7 +29,7 @@ pub fn list_step(store: &[u32], call: Encoded)
 }
 
 // save, with an output of its own.
-pub fn save_step(store: &[u32], e: u32)
+fn save_step(store: &[u32], e: u32)
     ensures { λ _. ⌜ Step (save (zeros e 64)) (now (store .entry)) (now (store .entry)) ⌝ }
 {
     let mut output = [0u8; 64];
@@ -38,14 +38,14 @@ pub fn save_step(store: &[u32], e: u32)
 }
 
 // load, with a part of the bytes beside the script.
-pub fn load_step(store: &mut [u32], images: &[u8], a: u32, b: u32)
+fn load_step(store: &mut [u32], images: &[u8], a: u32, b: u32)
     ensures { λ _. ⌜ Step (load (take b (drop a (now (images .entry))))) (now (store .entry)) (now (store .exit)) ⌝ }
 {
     register::load(store, part_of(images, wide(a), wide(b)));
 }
 
 // One call, run by calling it.
-pub fn step(store: &mut [u32], images: &[u8], call: Encoded)
+fn step(store: &mut [u32], images: &[u8], call: Encoded)
     ensures { λ _. ⌜ Step (callOf (now (images .entry)) call) (now (store .entry)) (now (store .exit)) ⌝ }
 {
     if call.number == 0 {
@@ -80,7 +80,7 @@ pub fn step(store: &mut [u32], images: &[u8], call: Encoded)
 }
 
 // The call at this index of a script.
-pub fn encoded_at(script: &[u32], i: usize) -> Encoded
+fn encoded_at(script: &[u32], i: usize) -> Encoded
     requires { ⌜ 6 * i + 6 ≤ length (now script) ⌝ }
     ensures { λ r. ⌜ r ≡ encodedAt (now (script .entry)) i ⌝ }
 {

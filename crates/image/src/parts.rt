@@ -14,7 +14,7 @@ pub fn byte_at(bytes: &[u8], at: usize) -> u32
 }
 
 // Four bytes, the low one first.
-pub fn four_at(bytes: &[u8], at: usize) -> u32
+fn four_at(bytes: &[u8], at: usize) -> u32
     requires { ⌜ at + 4 ≤ length (now bytes) ⌝ }
     ensures { λ r. ⌜ r ≡ fourAt (now (bytes .entry)) at ⌝ }
 {

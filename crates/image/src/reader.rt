@@ -20,7 +20,7 @@ pub enum ElementsRead {
 }
 
 // Has the entry at this index this level and code?
-pub fn is_entry(codes: &[u8], levels: &[u8], at: usize, level: u32, code: usize) -> bool
+fn is_entry(codes: &[u8], levels: &[u8], at: usize, level: u32, code: usize) -> bool
     requires { ⌜ length (now codes) ≡ 4 * length (now levels) ⌝ }
     ensures { λ r. ⌜ Decides r (EntryIs (now (codes .entry)) (now (levels .entry)) at level code) ⌝ }
 {
@@ -34,7 +34,7 @@ pub fn is_entry(codes: &[u8], levels: &[u8], at: usize, level: u32, code: usize)
 }
 
 // Has the entry at this index a code from `from` to below `to`?
-pub fn is_inside(codes: &[u8], levels: &[u8], at: usize, from: usize, to: usize) -> bool
+fn is_inside(codes: &[u8], levels: &[u8], at: usize, from: usize, to: usize) -> bool
     requires { ⌜ length (now codes) ≡ 4 * length (now levels) ⌝ }
     ensures { λ r. ⌜ Decides r (EntryInside (now (codes .entry)) (now (levels .entry)) at from to) ⌝ }
 {
@@ -49,7 +49,7 @@ pub fn is_inside(codes: &[u8], levels: &[u8], at: usize, from: usize, to: usize)
 }
 
 // Can an element of this level and code stand in a quarter of level `quarter`? It is no larger, and aligned.
-pub fn fits_quarter(quarter: u32, level: u32, code: usize) -> bool
+fn fits_quarter(quarter: u32, level: u32, code: usize) -> bool
     requires { ⌜ (quarter ≤ 16) × (code < 4294967296) ⌝ }
     ensures { λ r. ⌜ Decides r (FitsQuarter quarter level code) ⌝ }
 {
@@ -61,7 +61,7 @@ pub fn fits_quarter(quarter: u32, level: u32, code: usize) -> bool
 }
 
 // The elements of the block of this level and code, quarter by quarter.
-pub fn read_elements(
+fn read_elements(
     codes: &[u8],
     levels: &[u8],
     k: u32,
@@ -95,7 +95,7 @@ pub fn read_elements(
 }
 
 // What a quarter gives: the elements in it, one after another, fewer than k; where its own entry claims it, the quarter is that one element.
-pub fn read_quarter(
+fn read_quarter(
     codes: &[u8],
     levels: &[u8],
     k: u32,
@@ -134,7 +134,7 @@ pub fn read_quarter(
 }
 
 // The element whose entry stands at this index: a pixel, or a claimed block, and k elements or more must be in it.
-pub fn read_element(
+fn read_element(
     codes: &[u8],
     levels: &[u8],
     k: u32,
@@ -165,7 +165,7 @@ pub fn read_element(
 }
 
 // The number of entries of level 0.
-pub fn count_pixels(levels: &[u8]) -> usize
+fn count_pixels(levels: &[u8]) -> usize
     ensures { λ r. ⌜ r ≡ pixelLevels (now (levels .entry)) ⌝ }
 {
     let mut count = 0;

@@ -7,7 +7,7 @@ use store::reset::reset;
 use update::marks::mark;
 
 // One entry of the image: a pixel is marked, a block is passed over, since marking makes the blocks.
-pub fn fill_entry(store: &mut [u32], sizes: Sizes, codes: &[u8], levels: &[u8], at: usize)
+fn fill_entry(store: &mut [u32], sizes: Sizes, codes: &[u8], levels: &[u8], at: usize)
     requires { ⌜ EntryDue (now store) sizes (now codes) (now levels) at ⌝ }
     ensures { λ _. ⌜ Replaced (now (store .entry)) (now (store .exit)) (pixelsTo (now (codes .entry)) (now (levels .entry)) (at + 1)) ⌝ }
 {
@@ -17,7 +17,7 @@ pub fn fill_entry(store: &mut [u32], sizes: Sizes, codes: &[u8], levels: &[u8], 
 }
 
 // The pixels of an image, marked one by one in an empty register.
-pub fn fill(store: &mut [u32], sizes: Sizes, codes: &[u8], levels: &[u8])
+fn fill(store: &mut [u32], sizes: Sizes, codes: &[u8], levels: &[u8])
     requires { ⌜ FillDue (now store) sizes (now codes) (now levels) ⌝ }
     ensures { λ _. ⌜ Replaced (now (store .entry)) (now (store .exit)) (pixelsGiven (now (codes .entry)) (now (levels .entry))) ⌝ }
 {

@@ -7,7 +7,7 @@ ghost use Rattle.morton.specs.CommonLevel.{CommonLevel};
 use std::num::wrapping_sub_u32;
 
 // Each bit of a coordinate moves to twice its place: four halvings of the fields, as 01's last section asks.
-pub fn spread(x: u32) -> u32
+fn spread(x: u32) -> u32
     requires { ⌜ x < 65536 ⌝ }
     ensures { λ r. ⌜ r ≡ spreadBits 16 x ⌝ }
 {
@@ -18,7 +18,7 @@ pub fn spread(x: u32) -> u32
 }
 
 // The way back: the bits at even places close up again.
-pub fn gather(code: u32) -> u32
+fn gather(code: u32) -> u32
     ensures { λ r. ⌜ Coordinate (gatherBits 16 code) r ⌝ }
 {
     let a = code & 0x5555_5555;
@@ -48,7 +48,7 @@ pub fn y_of(code: u32) -> u32
 }
 
 // Whether n lies from first to last, both included, by one comparison: what is before first wraps past last.
-pub fn is_between(first: u32, last: u32, n: u32) -> bool
+fn is_between(first: u32, last: u32, n: u32) -> bool
     ensures { λ r. ⌜ Between first last n r ⌝ }
 {
     wrapping_sub_u32(n, first) <= wrapping_sub_u32(last, first)

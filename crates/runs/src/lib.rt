@@ -15,7 +15,7 @@ pub enum Run {
 }
 
 // The level of the smallest block that holds the code and the code of element i; 17, above every level, where there is no such element.
-pub fn level_at(part: &[u32], count: usize, i: usize, code: u32) -> u32
+fn level_at(part: &[u32], count: usize, i: usize, code: u32) -> u32
     requires { ⌜ Counted (now part) count ⌝ }
     ensures { λ r. ⌜ LevelAt (now (part .entry)) count i code r ⌝ }
 {
@@ -26,7 +26,7 @@ pub fn level_at(part: &[u32], count: usize, i: usize, code: u32) -> u32
 }
 
 // The same of the element before place i; 17 where there is none.
-pub fn level_before(part: &[u32], count: usize, i: usize, code: u32) -> u32
+fn level_before(part: &[u32], count: usize, i: usize, code: u32) -> u32
     requires { ⌜ Counted (now part) count × (i ≤ count) ⌝ }
     ensures { λ r. ⌜ LevelBefore (now (part .entry)) i code r ⌝ }
 {
@@ -37,7 +37,7 @@ pub fn level_before(part: &[u32], count: usize, i: usize, code: u32) -> u32
 }
 
 // How far to the left of `from` the elements in the block of this level around the code reach.
-pub fn reach_left(part: &[u32], count: usize, from: usize, code: u32, level: u32) -> usize
+fn reach_left(part: &[u32], count: usize, from: usize, code: u32, level: u32) -> usize
     requires { ⌜ (Counted (now part) count × (from ≤ count)) × (level ≤ 15) ⌝ }
     ensures { λ r. ⌜ ReachedLeft (now (part .entry)) from code level r ⌝ }
 {
@@ -52,7 +52,7 @@ pub fn reach_left(part: &[u32], count: usize, from: usize, code: u32, level: u32
     left
 }
 
-pub fn reach_right(part: &[u32], count: usize, from: usize, code: u32, level: u32) -> usize
+fn reach_right(part: &[u32], count: usize, from: usize, code: u32, level: u32) -> usize
     requires { ⌜ (Counted (now part) count × (from ≤ count)) × (level ≤ 15) ⌝ }
     ensures { λ r. ⌜ ReachedRight (now (part .entry)) count from code level r ⌝ }
 {

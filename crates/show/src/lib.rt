@@ -22,7 +22,7 @@ pub fn store_for_400() -> [u32; 7208]
 }
 
 // The register of the image's pixels, with N = 400; or the number of the refusal.
-pub fn open_image(store: &mut [u32], image: &[u8]) -> u32
+fn open_image(store: &mut [u32], image: &[u8]) -> u32
     requires { ⌜ 7208 ≤ length (now store) ⌝ }
     ensures { λ r. ⌜ ShowMeets (now (store .exit)) (now (image .entry)) r ⌝ }
 {

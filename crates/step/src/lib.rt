@@ -27,7 +27,7 @@ pub enum Placing {
 }
 
 // In a slot, elements give way to those of the scratch words; answers how many there are then.
-pub fn put(
+fn put(
     store: &mut [u32],
     layout: Layout,
     slot: usize,
@@ -63,7 +63,7 @@ pub enum Stepped {
 }
 
 // A run becomes a block: in a free slot where the block around it stays, else in the slot of the underfull block, which hands the rest up.
-pub fn regroup(
+fn regroup(
     store: &mut [u32],
     change: Change,
     root: bool,
@@ -101,7 +101,7 @@ pub fn regroup(
 }
 
 // No block is to be formed: an underfull block is deinstantiated, its elements go up; else the change is at rest.
-pub fn deinstantiate_underfull(
+fn deinstantiate_underfull(
     store: &mut [u32],
     change: Change,
     root: bool,
