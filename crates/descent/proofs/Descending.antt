@@ -18,6 +18,7 @@ use Rattle.store.specs.Opening.{HeaderSays, CannotOpen}
 use Rattle.measures.specs.declared.sizes.Layout.{Layout}
 use Rattle.store.specs.Placed.{Placed, forestOf}
 use Rattle.store.specs.Sound.{Sound}
+use Rattle.store.proofs.OpenedSlot as opened
 use Rattle.store.proofs.SoundView.{sound-view}
 use Rattle.store.proofs.BlockView.{BlockView, ChildView, elements-lie, child-view}
 use Rattle.descent.specs.Way.{Frame, plug}
@@ -124,7 +125,7 @@ module _ {words : List ℕ} {layout : Layout} {order code : ℕ} {slots places :
     count-is placed args = sym (header .count-is) ∙ seen-here placed args .says .count-is
 
     pub few-elements : count ≤ 75
-    few-elements = omega (arith, header .laid, slot-long layout words slot fits (d .slot-below), fits .within .width-to)
+    few-elements = opened.few-elements fits (d .slot-below) header
 
     pub found-here : (place : ℕ) (marked : Bool) → 1 ≤ level → LookedHere (slotPart (layout .width) words slot) count code place marked
         → LocateMeets words layout order code slots places (record { damaged = false; marked = marked; slot = slot; level = level; block = block; place = place; depth = depth })

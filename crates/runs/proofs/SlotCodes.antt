@@ -63,15 +63,15 @@ slot-codes part level code es says =
     (λ j h. ap (codeAt part) (let q : 0 + j ≡ j = omega arith in q) ∙ slot-code part level code es says j (omega (arith, length-codes (forestOf es)))))
 
 -- one element more is counted, or not
-one-more-if : {c n : ℕ} {l : List ℕ} (b : Bool) → length l ≡ n → length (cond b (c ∷ l) l) ≡ indicator b + n
-one-more-if true e = omega arith
-one-more-if false e = omega arith
+one-more-if : (c n : ℕ) (l : List ℕ) (b : Bool) → length l ≡ n → length (cond b (c ∷ l) l) ≡ indicator b + n
+one-more-if c n l true e = omega arith
+one-more-if c n l false e = omega arith
 
 -- counting codes is counting elements
 pub count-near : (h x : ℕ) (f : Forest) → countNear h x (codesOf f) ≡ countIn h (x / 4 ^ h) f
 count-near h x empty = refl
-count-near h x (pixel c f) = one-more-if (eqb (c / 4 ^ h) (x / 4 ^ h)) (count-near h x f)
-count-near h x (block i c es f) = one-more-if (eqb (c / 4 ^ h) (x / 4 ^ h)) (count-near h x f)
+count-near h x (pixel c f) = one-more-if c _ _ (eqb (c / 4 ^ h) (x / 4 ^ h)) (count-near h x f)
+count-near h x (block i c es f) = one-more-if c _ _ (eqb (c / 4 ^ h) (x / 4 ^ h)) (count-near h x f)
 
 -- the code of each element of an arranged forest is in its range
 pub code-in-range : (k n from to : ℕ) (f : Forest) → Arranged k n from to f → (i : ℕ) → i < size f → (from ≤ getD (codesOf f) i 0) × (getD (codesOf f) i 0 < to)
