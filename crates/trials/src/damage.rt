@@ -1,4 +1,6 @@
 // Damaged stores through all calls: what 01 fixes of them is compared.
+ghost use mathlib.Core.Path.{_≡_};
+ghost use lib.ListN.{length};
 use differential::damaged_calls;
 use differential::damaged_loads;
 use differential::steps::make;
@@ -14,15 +16,15 @@ use plain::words::copy_words;
 use plain::words::narrow;
 use plain::words::place;
 use plain::words::product_and;
-use report::LENGTH;
 use report::STORE_KEPT;
 use report::print_totals;
 use report::stopped;
 
-pub fn run_all(seeds: u32, calls: u32) {
-    let mut plain = [0u32; LENGTH];
-    run_seeds(seeds, calls, &mut plain);
-    print_totals(b"damaged stores ", seeds, &plain);
+pub fn run_all(seeds: u32, calls: u32, plain: &mut [u32])
+    ensures { λ _. ⌜ length (now (plain .exit)) ≡ length (now (plain .entry)) ⌝ }
+{
+    run_seeds(seeds, calls, plain);
+    print_totals(b"damaged stores ", seeds, plain);
     io::write_all(1, b"  on each, calls after the damage: ");
     io::print_decimal(1, calls as u64);
     io::write_all(1, b"\n");

@@ -1,4 +1,6 @@
 // Histories: from make on, calls drawn, on a store of just the words that the formula asks for.
+ghost use mathlib.Core.Path.{_≡_};
+ghost use lib.ListN.{length};
 use differential::steps::make;
 use differential::steps::walk;
 use draws::Step;
@@ -6,16 +8,16 @@ use draws::panels::panel_drawn;
 use plain::panel::Panel;
 use plain::panel::words_needed;
 use plain::words::place;
-use report::LENGTH;
 use report::PAST;
 use report::compare_words;
 use report::print_totals;
 use report::stopped;
 
-pub fn run_all(number: u32, calls: u32) {
-    let mut plain = [0u32; LENGTH];
-    run_seeds(number, calls, &mut plain);
-    print_totals(b"histories ", number, &plain);
+pub fn run_all(number: u32, calls: u32, plain: &mut [u32])
+    ensures { λ _. ⌜ length (now (plain .exit)) ≡ length (now (plain .entry)) ⌝ }
+{
+    run_seeds(number, calls, plain);
+    print_totals(b"histories ", number, plain);
 }
 
 fn run_seeds(number: u32, calls: u32, plain: &mut [u32]) {

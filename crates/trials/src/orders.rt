@@ -1,4 +1,6 @@
 // Two orders of the same marks end in the same bytes, also where other pixels come and go between them.
+ghost use mathlib.Core.Path.{_≡_};
+ghost use lib.ListN.{length};
 use differential::calls;
 use differential::steps::check;
 use differential::steps::compare_image;
@@ -20,7 +22,6 @@ use plain::words::product_and;
 use plain::words::put;
 use report::CLEAR;
 use report::IMAGES;
-use report::LENGTH;
 use report::MAKE;
 use report::MARK;
 use report::SAVE;
@@ -29,10 +30,11 @@ use report::compare_bytes;
 use report::print_totals;
 use report::stopped;
 
-pub fn run_all(seeds: u32) {
-    let mut plain = [0u32; LENGTH];
-    run_seeds(seeds, &mut plain);
-    print_totals(b"orders ", seeds, &plain);
+pub fn run_all(seeds: u32, plain: &mut [u32])
+    ensures { λ _. ⌜ length (now (plain .exit)) ≡ length (now (plain .entry)) ⌝ }
+{
+    run_seeds(seeds, plain);
+    print_totals(b"orders ", seeds, plain);
 }
 
 fn run_seeds(seeds: u32, plain: &mut [u32]) {
