@@ -17,6 +17,7 @@ pub fn panel_drawn(seed: u32) -> Panel
     }
 }
 
+// One less than N.
 fn below_most(start: Step) -> u32
     ensures { λ r. ⌜ r ≤ 43 ⌝ }
 {

@@ -31,4 +31,6 @@ quarter-put code which k within four aligned =
     let e : code ≡ above * 2 ^ (k + 2) = omega (arith, split code (k + 2)) in
     let s : 2 + k ≡ k + 2 = omega arith in
     let below : which * 2 ^ k < 2 ^ (k + 2) = rw s at (shl-lt 2 k four) in
-    ap (bitOr code) (shl-exact 2 k 32 four (omega arith)) ∙ ap (λ (n : ℕ). bitOr n (which * 2 ^ k)) e ∙ or-shifted above (k + 2) (which * 2 ^ k) below ∙ ap (λ (n : ℕ). n + which * 2 ^ k) (sym e)
+    ap (bitOr code) (shl-exact 2 k 32 four (omega arith))
+    ∙ ap (λ (n : ℕ). bitOr n (which * 2 ^ k)) e
+    ∙ or-shifted above (k + 2) (which * 2 ^ k) below ∙ ap (λ (n : ℕ). n + which * 2 ^ k) (sym e)

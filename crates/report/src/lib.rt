@@ -188,7 +188,7 @@ fn print_total(value: u32, of: &[u8]) {
     io::write_all(1, of);
 }
 
-// Whether all agreed, and that printed with the totals.
+// The totals are printed; the answer is whether all agreed.
 pub fn print_totals(name: &[u8], number: u32, plain: &[u32]) -> bool
     ensures { λ r. ⌜ r ≡ eqb (getD (now (plain .entry)) 331 0) 0 ⌝ }
 {

@@ -9,7 +9,9 @@ unfolding wordDrawn
 returns c =
     let second = c .before .before in
     let first = second .before .before in
-    rw (c .scrambled3 .ensures, c .before .wrapping-add-u323 .ensures, second .scrambled2 .ensures, second .before .wrapping-add-u322 .ensures, first .scrambled .ensures, first .before .wrapping-add-u32 .ensures)
+    let seeded = rw (first .before .wrapping-add-u32 .ensures) at (first .scrambled .ensures) in
+    let numbered = rw (second .before .wrapping-add-u322 .ensures, seeded) at (second .scrambled2 .ensures) in
+    rw (c .scrambled3 .ensures, c .before .wrapping-add-u323 .ensures, numbered)
 
 pub word-drawn-spec : {M : Type 1} → statement M
 word-drawn-spec =

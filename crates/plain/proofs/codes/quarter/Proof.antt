@@ -11,7 +11,11 @@ returns-2 : tie.Need-returns-2
 returns-2 c =
     let a = c .before .args in
     let twice : 2 * suc (a .level) ≡ 2 * a .level + 2 = omega arith in
-    record { says = λ below four aligned. rw (four-pow (a .level)) (quarter-put (a .code) (a .which) (2 * a .level) (omega arith) four (rw (four-pow (suc (a .level)), twice) at aligned)) }
+    record {
+      says = λ below four aligned.
+          rw (four-pow (a .level))
+          (quarter-put (a .code) (a .which) (2 * a .level) (omega arith) four (rw (four-pow (suc (a .level)), twice) at aligned));
+    }
 
 pub quarter-spec : {M : Type 1} → statement M
 quarter-spec =
