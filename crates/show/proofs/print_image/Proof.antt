@@ -7,22 +7,26 @@ use Rattle.show.proofs.print_image.Statement.{statement}
 use Rattle.show.proofs.print_image.Tie as tie
 
 codes-part-requires : tie.Need-codes-part-requires
-codes-part-requires c κs = decided-true (not-false _ (c .if1 .left)) (c .before .is-well-formed .ensures)
+codes-part-requires c κs = decided-true (not-false (c .before .is-well-formed .result) (c .if1 .left)) (c .before .is-well-formed .ensures)
 
 levels-part-requires : tie.Need-levels-part-requires
-levels-part-requires c κs = decided-true (not-false _ (c .before .if1 .left)) (c .before .before .is-well-formed .ensures)
+levels-part-requires c κs = codes-part-requires (c .before) (c .codes-part .lifetimes)
 
 entry-number-requires : tie.Need-entry-number-requires
-entry-number-requires c κs = decided-true (not-false _ (c .before .before .if1 .left)) (c .before .before .before .is-well-formed .ensures)
+entry-number-requires c κs = codes-part-requires (c .before .before) (c .before .codes-part .lifetimes)
 
 pixel-number-requires : tie.Need-pixel-number-requires
-pixel-number-requires c κs = decided-true (not-false _ (c .before .before .before .if1 .left)) (c .before .before .before .before .is-well-formed .ensures)
+pixel-number-requires c κs = codes-part-requires (c .before .before .before) (c .before .before .codes-part .lifetimes)
 
 byte-at-requires : tie.Need-byte-at-requires
-byte-at-requires c κs = let w = decided-true (not-false _ (c .before .before .before .before .before .if1 .left)) (c .before .before .before .before .before .before .is-well-formed .ensures) in omega (arith, w .header)
+byte-at-requires c κs =
+    let parts = c .before .before .before .before in
+    omega (arith, codes-part-requires (parts .before) (parts .codes-part .lifetimes) .header)
 
 byte-at-requires-2 : tie.Need-byte-at-requires-2
-byte-at-requires-2 c κs = let w = decided-true (not-false _ (c .before .before .before .before .before .before .if1 .left)) (c .before .before .before .before .before .before .before .is-well-formed .ensures) in omega (arith, w .header)
+byte-at-requires-2 c κs =
+    let parts = c .before .before .before .before .before in
+    omega (arith, codes-part-requires (parts .before) (parts .codes-part .lifetimes) .header)
 
 pub print-image-spec : {M : Type 1} → statement M
 print-image-spec =
