@@ -6,17 +6,17 @@ use mathlib.Core.Path.{_≡_, refl, ap, subst, sym, _∙_}
 use mathlib.Core.Logic.{_⊎_}
 use mathlib.Core.List.{List, [], _∷_, _++_, append-nil}
 use lib.ListN.{length, length-append}
-use Rattle.pktree.specs.Elements.{block, size}
+use Rattle.pktree.specs.Elements.{size, _⧺_, blockAt, empty}
 use Rattle.pktree.specs.Tree.{pixels}
 use Rattle.pktree.proofs.Forests.{blockCount, blockCount-join}
 use Rattle.pktree.proofs.Arranged.{LocallyRight}
 use Rattle.measures.specs.Sizes.{slotCount}
 use Rattle.measures.specs.Slot.{slotPart}
-use Rattle.store.specs.Placed.{Placed, nothing, blockThen, _⧻_, forestOf, slotsOf}
+use Rattle.store.specs.Placed.{Placed, slotsOf}
 use Rattle.store.specs.FreeSlots.{FreeSlots, occurrences}
 use Rattle.store.specs.Sound.{SlotsShared}
 use Rattle.store.proofs.Standing.{SlotSays, Stands}
-use Rattle.store.proofs.PlacedJoin.{forest-join, slots-are-blocks}
+use Rattle.store.proofs.PlacedJoin.{slots-are-blocks}
 use Rattle.store.proofs.SoundView.{slots-suffice}
 use Rattle.store.proofs.FreeChains.{occurrences-same, occurrences-other, occurrences-join}
 use Rattle.descent.specs.Way.{Frame, plug}
@@ -29,10 +29,10 @@ pub record Completed (σ : Setting) (words : List ℕ) : Type 0 where
   pub es : Placed
   pub free : List ℕ
   pub root : RootStands (widthIn σ) words (σ .m) es
-  pub right : LocallyRight (σ .k) (σ .m) 0 (forestOf es)
+  pub right : LocallyRight (σ .k) (σ .m) 0 es
   pub free-chain : FreeSlots (widthIn σ) words free
   pub shared : SlotsShared (slotsIn σ) (0 ∷ slotsOf es) free
-  pub pixels-are : pixels (forestOf es) ≡ σ .target
+  pub pixels-are : pixels es ≡ σ .target
 
 -- the block at the end of the way is right, with k elements or as the root, and all stands
 pub record AtRest (σ : Setting) (words : List ℕ) (way : List Frame) (s level code : ℕ) (es : Placed) (free : List ℕ) : Type 0 where
@@ -42,11 +42,11 @@ pub record AtRest (σ : Setting) (words : List ℕ) (way : List Frame) (s level 
   pub below : σ .x < code + 4 ^ level
   pub says : SlotSays (slotPart (widthIn σ) words s) level code es
   pub stands : Stands (widthIn σ) words es
-  pub right : LocallyRight (σ .k) level code (forestOf es)
-  pub enough : (level ≡ σ .m) ⊎ (σ .k ≤ size (forestOf es))
+  pub right : LocallyRight (σ .k) level code es
+  pub enough : (level ≡ σ .m) ⊎ (σ .k ≤ size es)
   pub free-chain : FreeSlots (widthIn σ) words free
   pub shared : SlotsShared (slotsIn σ) (waySlots way ++ (s ∷ slotsOf es)) free
-  pub pixels-are : pixels (forestOf (plug way s level code es)) ≡ σ .target
+  pub pixels-are : pixels (plug way s level code es) ≡ σ .target
 
 root-in-slot-0 : (width : ℕ) (words : List ℕ) (way : List Frame) (s i d : ℕ) → FramesStand width words way s i d → rootSlot way s ≡ 0
 root-in-slot-0 width words [] s i d h = h
@@ -55,9 +55,9 @@ root-in-slot-0 width words (f ∷ way) s i d h = root-in-slot-0 width words way 
 pub completed : (σ : Setting) (words : List ℕ) (way : List Frame) (s level code : ℕ) (es : Placed) (free : List ℕ) → AtRest σ words way s level code es free → Completed σ words
 completed σ words way s level code es free h =
     let root : Placed = rootElements way s level code es in
-    let e : plug way s level code es ≡ blockThen 0 (σ .m) 0 root nothing =
+    let e : plug way s level code es ≡ blockAt 0 (σ .m) 0 root empty =
     plug-root (σ .k) (σ .m) way s level code es (h .frames-right)
-    ∙ ap (λ (t : ℕ). blockThen t (σ .m) 0 root nothing) (root-in-slot-0 (widthIn σ) words way s level code (h .frames-stand)) in
+    ∙ ap (λ (t : ℕ). blockAt t (σ .m) 0 root empty) (root-in-slot-0 (widthIn σ) words way s level code (h .frames-stand)) in
     record {
       es = root;
       free = free;
@@ -74,7 +74,7 @@ completed σ words way s level code es free h =
             occurrences-join t (waySlots way) (s ∷ slotsOf es),
             occurrences-join t (0 ∷ slotsOf root) free,
           ));
-      pixels-are = sym (append-nil (pixels (forestOf root))) ∙ ap (λ (p : Placed). pixels (forestOf p)) (sym e) ∙ h .pixels-are;
+      pixels-are = sym (append-nil (pixels root)) ∙ ap (λ (p : Placed). pixels p) (sym e) ∙ h .pixels-are;
     }
 
 -- slots that are all used are as many as the list has
@@ -120,31 +120,29 @@ some-free n used free h few e =
     omega (arith, sum-le-length n (used ++ free), length-append used free, ap length e)
 
 -- the blocks of a plugged tree
-plug-blocks : (way : List Frame) (s i d : ℕ) (es fs : Placed) → blockCount (forestOf fs) ≡ suc (blockCount (forestOf es))
-    → blockCount (forestOf (plug way s i d fs)) ≡ suc (blockCount (forestOf (plug way s i d es)))
+plug-blocks : (way : List Frame) (s i d : ℕ) (es fs : Placed) → blockCount fs ≡ suc (blockCount es)
+    → blockCount (plug way s i d fs) ≡ suc (blockCount (plug way s i d es))
 plug-blocks [] s i d es fs e = omega arith
 plug-blocks (f ∷ way) s i d es fs e =
-    plug-blocks way (f .slot) (f .level) (f .code) (f .before ⧻ blockThen s i d es (f .after)) (f .before ⧻ blockThen s i d fs (f .after))
+    plug-blocks way (f .slot) (f .level) (f .code) (f .before ⧺ blockAt s i d es (f .after)) (f .before ⧺ blockAt s i d fs (f .after))
     (omega (
       arith,
-      ap blockCount (forest-join (f .before) (blockThen s i d es (f .after))),
-      ap blockCount (forest-join (f .before) (blockThen s i d fs (f .after))),
-      blockCount-join (forestOf (f .before)) (block i d (forestOf es) (forestOf (f .after))),
-      blockCount-join (forestOf (f .before)) (block i d (forestOf fs) (forestOf (f .after))),
+      blockCount-join (f .before) (blockAt s i d es (f .after)),
+      blockCount-join (f .before) (blockAt s i d fs (f .after)),
     ))
 
 -- one block more makes a right tree of at most N pixels: so a slot for it is free
 pub slot-for-block : (σ : Setting) (way : List Frame) (s level code : ℕ) (es fs : Placed) (free : List ℕ) → FramesRight (σ .k) (σ .m) way level code
-    → code ≤ σ .x → σ .x < code + 4 ^ level → LocallyRight (σ .k) level code (forestOf fs) → (level ≡ σ .m) ⊎ (σ .k ≤ size (forestOf fs))
-    → blockCount (forestOf fs) ≡ suc (blockCount (forestOf es)) → pixels (forestOf (plug way s level code fs)) ≡ σ .target
+    → code ≤ σ .x → σ .x < code + 4 ^ level → LocallyRight (σ .k) level code fs → (level ≡ σ .m) ⊎ (σ .k ≤ size fs)
+    → blockCount fs ≡ suc (blockCount es) → pixels (plug way s level code fs) ≡ σ .target
     → SlotsShared (slotsIn σ) (waySlots way ++ (s ∷ slotsOf es)) free → free ≡ [] → ⊥
 slot-for-block σ way s level code es fs free r lo hi right enough one pix shared e =
     let root : Placed = rootElements way s level code fs in
-    let q : plug way s level code fs ≡ blockThen (rootSlot way s) (σ .m) 0 root nothing = plug-root (σ .k) (σ .m) way s level code fs r in
-    let w : LocallyRight (σ .k) (σ .m) 0 (forestOf root) = whole-right (σ .k) (σ .m) way s level code (σ .x) fs (σ .k-from) r lo hi right enough in
-    let p : pixels (forestOf root) ≡ σ .target = sym (append-nil (pixels (forestOf root))) ∙ ap (λ (t : Placed). pixels (forestOf t)) (sym q) ∙ pix in
-    let b : suc (blockCount (forestOf root)) ≤ slotCount (σ .k) (σ .most) =
-    slots-suffice (σ .k) (σ .m) (σ .most) (forestOf root) (σ .k-from) (σ .most-from) w (subst (λ (l : List ℕ). length l ≤ σ .most) (sym p) (σ .few)) in
+    let q : plug way s level code fs ≡ blockAt (rootSlot way s) (σ .m) 0 root empty = plug-root (σ .k) (σ .m) way s level code fs r in
+    let w : LocallyRight (σ .k) (σ .m) 0 root = whole-right (σ .k) (σ .m) way s level code (σ .x) fs (σ .k-from) r lo hi right enough in
+    let p : pixels root ≡ σ .target = sym (append-nil (pixels root)) ∙ ap pixels (sym q) ∙ pix in
+    let b : suc (blockCount root) ≤ slotCount (σ .k) (σ .most) =
+    slots-suffice (σ .k) (σ .m) (σ .most) root (σ .k-from) (σ .most-from) w (subst (λ (l : List ℕ). length l ≤ σ .most) (sym p) (σ .few)) in
     let u : List ℕ = slotsOf (plug way s level code es) in
     let moved : SlotsShared (slotsIn σ) u free = shared-moves (slotsIn σ) (waySlots way ++ (s ∷ slotsOf es)) free u free shared
     (λ t. omega (
@@ -159,7 +157,7 @@ slot-for-block σ way s level code es fs free r lo hi right enough one pix share
       arith,
       slots-are-blocks (plug way s level code es),
       plug-blocks way s level code es fs one,
-      ap (λ (t : Placed). blockCount (forestOf t)) q,
+      ap blockCount q,
       σ .slots-is,
     ))
     e

@@ -3,23 +3,25 @@ use Prim.Native.Nat.{ℕ, _*_, _<_}
 use mathlib.Core.Path.{_≡_, ap, subst, sym, _∙_}
 use mathlib.Core.List.{List, [], _∷_, _++_}
 use lib.ListN.{take}
+use Rattle.store.specs.Element.{tagSlots}
 use Rattle.pktree.specs.Lists.{Every}
-use Rattle.pktree.specs.Elements.{size}
+use Rattle.pktree.specs.Elements.{size, _⧺_, blockAt, empty}
+use Rattle.pktree.proofs.Forests.{size-join}
 use Rattle.measures.specs.Slot.{slotPart, elementPart}
-use Rattle.store.specs.Placed.{Placed, nothing, blockThen, _⧻_, forestOf, slotsOf}
+use Rattle.store.specs.Placed.{Placed, slotsOf}
 use Rattle.store.proofs.Standing.{elementWords, SlotSays, Stands, frame, every-left, every-right}
-use Rattle.store.proofs.PlacedJoin.{words-join, size-placed-join, stands-join}
+use Rattle.store.proofs.PlacedJoin.{words-join, stands-join}
 use Rattle.descent.specs.Way.{Frame}
 use Rattle.change.proofs.Frames.{FramesRight, rootElements}
 use Rattle.change.proofs.SlotCounts.{waySlots}
 
 -- a slot that names a block says nothing of what is in it
-pub says-any : (part : List ℕ) (level code s i d : ℕ) (a x y b : Placed) → SlotSays part level code (a ⧻ blockThen s i d x b) → SlotSays part level code (a ⧻ blockThen s i d y b)
+pub says-any : (part : List ℕ) (level code s i d : ℕ) (a x y b : Placed) → SlotSays part level code (a ⧺ blockAt s i d x b) → SlotSays part level code (a ⧺ blockAt s i d y b)
 says-any part level code s i d a x y b h =
-    let n : size (forestOf (a ⧻ blockThen s i d x b)) ≡ size (forestOf (a ⧻ blockThen s i d y b)) =
-    size-placed-join a (blockThen s i d x b) ∙ sym (size-placed-join a (blockThen s i d y b)) in
-    let w : elementWords (a ⧻ blockThen s i d x b) ≡ elementWords (a ⧻ blockThen s i d y b) =
-    words-join a (blockThen s i d x b) ∙ sym (words-join a (blockThen s i d y b)) in
+    let n : size (a ⧺ blockAt s i d x b) ≡ size (a ⧺ blockAt s i d y b) =
+    size-join a (blockAt s i d x b) ∙ sym (size-join a (blockAt s i d y b)) in
+    let w : elementWords (a ⧺ blockAt s i d x b) ≡ elementWords (a ⧺ blockAt s i d y b) =
+    words-join a (blockAt s i d x b) ∙ sym (words-join a (blockAt s i d y b)) in
     record {
       level-is = h .level-is;
       code-is = h .code-is;
@@ -31,7 +33,7 @@ says-any part level code s i d a x y b h =
 abbrev pub FramesStand : ℕ → List ℕ → List Frame → ℕ → ℕ → ℕ → Type 0
 FramesStand width words [] s i d = s ≡ 0
 FramesStand width words (f ∷ way) s i d =
-    (s < 1048576) × SlotSays (slotPart width words (f .slot)) (f .level) (f .code) (f .before ⧻ blockThen s i d nothing (f .after))
+    (s < tagSlots) × SlotSays (slotPart width words (f .slot)) (f .level) (f .code) (f .before ⧺ blockAt s i d empty (f .after))
     × Stands width words (f .before) × Stands width words (f .after) × FramesStand width words way (f .slot) (f .level) (f .code)
 
 -- words that agree on the slots of the way
@@ -42,7 +44,7 @@ frames-kept width words words′ (f ∷ way) s i d e h =
     let r = e .1 in
     let rest = every-right _ (slotsOf (f .before)) (slotsOf (f .after) ++ waySlots way) r in (
       h .0,
-      subst (λ (p : List ℕ). SlotSays p (f .level) (f .code) (f .before ⧻ blockThen s i d nothing (f .after))) (e .0) (h .1),
+      subst (λ (p : List ℕ). SlotSays p (f .level) (f .code) (f .before ⧺ blockAt s i d empty (f .after))) (e .0) (h .1),
       frame width words words′ (f .before) (every-left _ (slotsOf (f .before)) (slotsOf (f .after) ++ waySlots way) r) (h .2),
       frame width words words′ (f .after) (every-left _ (slotsOf (f .after)) (waySlots way) rest) (h .3),
       frames-kept width words words′ way (f .slot) (f .level) (f .code) (every-right _ (slotsOf (f .after)) (waySlots way) rest) (h .4),
@@ -61,6 +63,6 @@ root-stands k m width words [] s i d es r h says stands =
       stands = stands;
     }
 root-stands k m width words (f ∷ way) s i d es r h says stands =
-    root-stands k m width words way (f .slot) (f .level) (f .code) (f .before ⧻ blockThen s i d es (f .after)) (r .1) (h .4)
-    (says-any (slotPart width words (f .slot)) (f .level) (f .code) s i d (f .before) nothing es (f .after) (h .1))
-    (stands-join width words (f .before) (blockThen s i d es (f .after)) (h .2) (h .0, says, stands, h .3))
+    root-stands k m width words way (f .slot) (f .level) (f .code) (f .before ⧺ blockAt s i d es (f .after)) (r .1) (h .4)
+    (says-any (slotPart width words (f .slot)) (f .level) (f .code) s i d (f .before) empty es (f .after) (h .1))
+    (stands-join width words (f .before) (blockAt s i d es (f .after)) (h .2) (h .0, says, stands, h .3))

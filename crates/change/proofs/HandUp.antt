@@ -6,7 +6,7 @@ use mathlib.Core.Logic.{inr}
 use mathlib.Core.List.{List, [], _∷_, _++_}
 use Rattle.pktree.specs.Panel.{Aligned}
 use Rattle.pktree.specs.PixelSet.{member}
-use Rattle.pktree.specs.Elements.{Forest, block, _⧺_, size}
+use Rattle.pktree.specs.Elements.{_⧺_, size, blockAt, empty}
 use Rattle.pktree.specs.Tree.{pixels}
 use Rattle.pktree.proofs.Forests.{size-join, pixels-join}
 use Rattle.pktree.proofs.Arranged.{quarterLevel, Arranged, LocallyRight}
@@ -14,10 +14,11 @@ use Rattle.pktree.proofs.LocalLaw.{local-is-gather}
 use Rattle.pktree.proofs.Sizes.{size-gather-any}
 use Rattle.pktree.proofs.Regroup.{Disturbed}
 use Rattle.pktree.proofs.Edits.{dissolve}
-use Rattle.store.specs.Placed.{Placed, nothing, blockThen, _⧻_, forestOf, slotsOf}
+use Rattle.pktree.proofs.Unlabelled.{size-unlabelled, local-unlabelled}
+use Rattle.store.specs.Placed.{Placed, forestOf, slotsOf}
 use Rattle.store.specs.FreeSlots.{FreeSlots, occurrences}
 use Rattle.store.proofs.Standing.{Stands}
-use Rattle.store.proofs.PlacedJoin.{forest-join, slots-join, size-placed-join, stands-join}
+use Rattle.store.proofs.PlacedJoin.{slots-join, stands-join}
 use Rattle.store.proofs.FreeChains.{occurrences-join}
 use Rattle.descent.specs.Way.{Frame, plug}
 use Rattle.change.proofs.Frames.{FrameRight, frame-holds}
@@ -26,54 +27,50 @@ use Rattle.change.proofs.FramesStand.{FramesStand}
 use Rattle.change.proofs.Pending.{Setting, widthIn, slotsIn, Around, Pending}
 
 -- a block that is right has at most 4 (k - 1) elements
-pub right-size : (k level code : ℕ) (es : Forest) → 2 ≤ k → Aligned level code → LocallyRight k level code es → size es ≤ 4 * (k - 1)
+pub right-size : (k level code : ℕ) (es : Placed) → 2 ≤ k → Aligned level code → LocallyRight k level code es → size es ≤ 4 * (k - 1)
 right-size k level code es h a r =
-    subst (λ (f : Forest). size f ≤ 4 * (k - 1)) (sym (local-is-gather k level code es a r)) (size-gather-any (member (pixels es)) k level code h)
+    subst (λ (n : ℕ). n ≤ 4 * (k - 1)) (ap size (sym (local-is-gather k level code (forestOf es) a (local-unlabelled r))) ∙ size-unlabelled es)
+    (size-gather-any (member (pixels (forestOf es))) k level code h)
 
 -- contents of the same pixels
-pub plug-pixels : (way : List Frame) (s level code : ℕ) (es fs : Placed) → pixels (forestOf es) ≡ pixels (forestOf fs)
-    → pixels (forestOf (plug way s level code es)) ≡ pixels (forestOf (plug way s level code fs))
+pub plug-pixels : (way : List Frame) (s level code : ℕ) (es fs : Placed) → pixels es ≡ pixels fs
+    → pixels (plug way s level code es) ≡ pixels (plug way s level code fs)
 plug-pixels [] s level code es fs e = ap (λ (l : List ℕ). l ++ []) e
 plug-pixels (f ∷ way) s level code es fs e =
-    plug-pixels way (f .slot) (f .level) (f .code) (f .before ⧻ blockThen s level code es (f .after)) (f .before ⧻ blockThen s level code fs (f .after))
-    (ap pixels (forest-join (f .before) (blockThen s level code es (f .after))) ∙ pixels-join (forestOf (f .before)) (block level code (forestOf es) (forestOf (f .after)))
-    ∙ ap (λ (l : List ℕ). pixels (forestOf (f .before)) ++ (l ++ pixels (forestOf (f .after)))) e
-    ∙ sym (ap pixels (forest-join (f .before) (blockThen s level code fs (f .after))) ∙ pixels-join (forestOf (f .before)) (block level code (forestOf fs) (forestOf (f .after)))))
+    plug-pixels way (f .slot) (f .level) (f .code) (f .before ⧺ blockAt s level code es (f .after)) (f .before ⧺ blockAt s level code fs (f .after))
+    (pixels-join (f .before) (blockAt s level code es (f .after))
+    ∙ ap (λ (l : List ℕ). pixels (f .before) ++ (l ++ pixels (f .after))) e
+    ∙ sym (pixels-join (f .before) (blockAt s level code fs (f .after))))
 
 -- elements in a block's place have the block's pixels
-place-pixels : (a es b : Placed) (s level code : ℕ) → pixels (forestOf (a ⧻ (es ⧻ b))) ≡ pixels (forestOf (a ⧻ blockThen s level code es b))
+place-pixels : (a es b : Placed) (s level code : ℕ) → pixels (a ⧺ (es ⧺ b)) ≡ pixels (a ⧺ blockAt s level code es b)
 place-pixels a es b s level code =
-    ap pixels (forest-join a (es ⧻ b)) ∙ pixels-join (forestOf a) (forestOf (es ⧻ b))
-    ∙ ap (λ (l : List ℕ). pixels (forestOf a) ++ l) (ap pixels (forest-join es b) ∙ pixels-join (forestOf es) (forestOf b))
-    ∙ sym (ap pixels (forest-join a (blockThen s level code es b)) ∙ pixels-join (forestOf a) (block level code (forestOf es) (forestOf b)))
+    pixels-join a (es ⧺ b) ∙ ap (λ (l : List ℕ). pixels a ++ l) (pixels-join es b) ∙ sym (pixels-join a (blockAt s level code es b))
 
 -- fewer than k elements in the place of a block of the way: right but perhaps around x
 dissolved : (σ : Setting) (f : Frame) (level code : ℕ) (left : Placed) → FrameRight (σ .k) (σ .m) f level code → code ≤ σ .x → σ .x < code + 4 ^ level
-    → size (forestOf left) < σ .k → Arranged (σ .k) level code (code + 4 ^ level) (forestOf left)
-    → Disturbed (σ .k) (quarterLevel (f .level)) (f .code) (σ .x) (forestOf (f .before ⧻ (left ⧻ f .after)))
+    → size left < σ .k → Arranged (σ .k) level code (code + 4 ^ level) left
+    → Disturbed (σ .k) (quarterLevel (f .level)) (f .code) (σ .x) (f .before ⧺ (left ⧺ f .after))
 dissolved σ f level code left g lo hi few arr = go (f .level) refl
   where
     in-f : (f .code ≤ σ .x) × (σ .x < f .code + 4 ^ f .level)
     in-f = frame-holds (σ .k) (σ .m) f level code (σ .x) g lo hi
 
-    e : forestOf (f .before ⧻ (left ⧻ f .after)) ≡ forestOf (f .before) ⧺ (forestOf left ⧺ forestOf (f .after))
-    e = forest-join (f .before) (left ⧻ f .after) ∙ ap (λ (t : Forest). forestOf (f .before) ⧺ t) (forest-join left (f .after))
-
-    go : (n : ℕ) → f .level ≡ n → Disturbed (σ .k) (quarterLevel n) (f .code) (σ .x) (forestOf (f .before ⧻ (left ⧻ f .after)))
+    go : (n : ℕ) → f .level ≡ n → Disturbed (σ .k) (quarterLevel n) (f .code) (σ .x) (f .before ⧺ (left ⧺ f .after))
     go zero l = absurd (omega (arith, g .under))
     go (suc n) l =
-        rw e (dissolve (σ .k) n (f .code) (σ .x) (σ .k-from) (subst (λ (j : ℕ). Aligned j (f .code)) l (g .aligned)) (in-f .0) (subst (λ (j : ℕ). σ .x < f .code + 4 ^ j) l (in-f .1)) _
-        (forestOf (f .before)) (forestOf (f .after)) (g .old) level code refl
-        (subst (λ (j : ℕ). LocallyRight (σ .k) j (f .code) (forestOf (f .before) ⧺ block level code (g .old) (forestOf (f .after)))) l (g .right))
-        (subst (λ (j : ℕ). Arranged (σ .k) j (f .code) code (forestOf (f .before))) l (g .low)) (subst (λ (j : ℕ). level < j) l (g .under)) (g .inner) lo hi
-        (subst (λ (j : ℕ). Arranged (σ .k) j (code + 4 ^ level) (f .code + 4 ^ j) (forestOf (f .after))) l (g .high)) (forestOf left) few arr)
+        dissolve (σ .k) n (f .code) (σ .x) (σ .k-from) (subst (λ (j : ℕ). Aligned j (f .code)) l (g .aligned)) (in-f .0) (subst (λ (j : ℕ). σ .x < f .code + 4 ^ j) l (in-f .1)) (g .was) _
+        (f .before) (f .after) (g .old) level code refl
+        (subst (λ (j : ℕ). LocallyRight (σ .k) j (f .code) (f .before ⧺ blockAt (g .was) level code (g .old) (f .after))) l (g .right))
+        (subst (λ (j : ℕ). Arranged (σ .k) j (f .code) code (f .before)) l (g .low)) (subst (λ (j : ℕ). level < j) l (g .under)) (g .inner) lo hi
+        (subst (λ (j : ℕ). Arranged (σ .k) j (code + 4 ^ level) (f .code + 4 ^ j) (f .after)) l (g .high)) left few arr
 
 -- what the block of slot s leaves of itself, and what the words then say of it and of the blocks around it
 pub record LeftOver (σ : Setting) (after : List ℕ) (f : Frame) (way : List Frame) (s level code : ℕ) (es left : Placed) (free free′ : List ℕ) : Type 0 where
-  pub few : size (forestOf left) < σ .k
-  pub some : 1 ≤ size (forestOf left)
-  pub arranged : Arranged (σ .k) level code (code + 4 ^ level) (forestOf left)
-  pub same-pixels : pixels (forestOf left) ≡ pixels (forestOf es)
+  pub few : size left < σ .k
+  pub some : 1 ≤ size left
+  pub arranged : Arranged (σ .k) level code (code + 4 ^ level) left
+  pub same-pixels : pixels left ≡ pixels es
   pub frames-stand : FramesStand (widthIn σ) after (f ∷ way) s level code
   pub stands : Stands (widthIn σ) after left
   pub free-chain : FreeSlots (widthIn σ) after free′
@@ -82,47 +79,47 @@ pub record LeftOver (σ : Setting) (after : List ℕ) (f : Frame) (way : List Fr
 pub handed-up : (σ : Setting) (words after : List ℕ) (f : Frame) (way : List Frame) (s level code : ℕ) (es left : Placed) (free free′ : List ℕ)
     → Around σ words (f ∷ way) s level code es free → LeftOver σ after f way s level code es left free free′
     → code ≤ σ .x → σ .x < code + 4 ^ level
-    → Pending σ after way (f .slot) (f .level) (f .code) (f .before) (blockThen s level code nothing nothing) left (f .after) free′
+    → Pending σ after way (f .slot) (f .level) (f .code) (f .before) (blockAt s level code empty empty) left (f .after) free′
 handed-up σ words after f way s level code es left free free′ h r lo hi =
     let g = h .frames-right .0 in
     let b = f .before in
     let c = f .after in
-    let wide : size (forestOf b ⧺ block level code (g .old) (forestOf c)) ≤ 4 * (σ .k - 1) =
-    right-size (σ .k) (f .level) (f .code) (forestOf b ⧺ block level code (g .old) (forestOf c)) (σ .k-from) (g .aligned) (g .right) in
-    let room : size (forestOf b) + suc (size (forestOf c)) ≤ 4 * (σ .k - 1) = omega (arith, size-join (forestOf b) (block level code (g .old) (forestOf c))) in
+    let wide : size (b ⧺ blockAt (g .was) level code (g .old) c) ≤ 4 * (σ .k - 1) =
+    right-size (σ .k) (f .level) (f .code) (b ⧺ blockAt (g .was) level code (g .old) c) (σ .k-from) (g .aligned) (g .right) in
+    let room : size b + suc (size c) ≤ 4 * (σ .k - 1) = omega (arith, size-join b (blockAt (g .was) level code (g .old) c)) in
     record {
       around = record {
         frames-right = h .frames-right .1;
         frames-stand = r .frames-stand .4;
-        stands = stands-join (widthIn σ) after b (left ⧻ c) (r .frames-stand .2) (stands-join (widthIn σ) after left c (r .stands) (r .frames-stand .3));
+        stands = stands-join (widthIn σ) after b (left ⧺ c) (r .frames-stand .2) (stands-join (widthIn σ) after left c (r .stands) (r .frames-stand .3));
         level-from = omega (arith, g .under);
         disturbed = dissolved σ f level code left g lo hi (r .few) (r .arranged);
-        fits = omega (arith, r .few, σ .k-from, size-placed-join b (left ⧻ c), size-placed-join left c);
-        some = inr (omega (arith, r .some, size-placed-join b (left ⧻ c), size-placed-join left c));
+        fits = omega (arith, r .few, σ .k-from, size-join b (left ⧺ c), size-join left c);
+        some = inr (omega (arith, r .some, size-join b (left ⧺ c), size-join left c));
         free-chain = r .free-chain;
-        shared = shared-moves (slotsIn σ) (waySlots (f ∷ way) ++ (s ∷ slotsOf es)) free (waySlots way ++ (f .slot ∷ slotsOf (b ⧻ (left ⧻ c)))) free′ (h .shared) moved;
-        pixels-are = plug-pixels way (f .slot) (f .level) (f .code) (b ⧻ (left ⧻ c)) (b ⧻ blockThen s level code left c) (place-pixels b left c s level code)
+        shared = shared-moves (slotsIn σ) (waySlots (f ∷ way) ++ (s ∷ slotsOf es)) free (waySlots way ++ (f .slot ∷ slotsOf (b ⧺ (left ⧺ c)))) free′ (h .shared) moved;
+        pixels-are = plug-pixels way (f .slot) (f .level) (f .code) (b ⧺ (left ⧺ c)) (b ⧺ blockAt s level code left c) (place-pixels b left c s level code)
             ∙ plug-pixels (f ∷ way) s level code left es (r .same-pixels) ∙ h .pixels-are;
       };
       says = r .frames-stand .1;
-      was-fit = omega (arith, size-placed-join b (blockThen s level code nothing c));
+      was-fit = omega (arith, size-join b (blockAt s level code empty c));
       right-if-none-inserted = λ none. absurd (omega (arith, r .some));
     }
   where
-    moved : (t : ℕ) → occurrences t ((waySlots way ++ (f .slot ∷ slotsOf (f .before ⧻ (left ⧻ f .after)))) ++ free′)
+    moved : (t : ℕ) → occurrences t ((waySlots way ++ (f .slot ∷ slotsOf (f .before ⧺ (left ⧺ f .after)))) ++ free′)
         ≡ occurrences t ((waySlots (f ∷ way) ++ (s ∷ slotsOf es)) ++ free)
     moved t =
         let u : List ℕ = slotsOf (f .before) in
         let v : List ℕ = slotsOf (f .after) in
         let w : List ℕ = waySlots way in
-        let n : List ℕ = slotsOf (f .before ⧻ (left ⧻ f .after)) in
+        let n : List ℕ = slotsOf (f .before ⧺ (left ⧺ f .after)) in
         omega (
           arith,
           occurrences-join t (w ++ (f .slot ∷ n)) free′,
           occurrences-join t w (f .slot ∷ n),
           occurrences-join t (f .slot ∷ []) n,
-          ap (occurrences t) (slots-join (f .before) (left ⧻ f .after)),
-          occurrences-join t u (slotsOf (left ⧻ f .after)),
+          ap (occurrences t) (slots-join (f .before) (left ⧺ f .after)),
+          occurrences-join t u (slotsOf (left ⧺ f .after)),
           ap (occurrences t) (slots-join left (f .after)),
           occurrences-join t (slotsOf left) v,
           occurrences-join t (waySlots (f ∷ way) ++ (s ∷ slotsOf es)) free,

@@ -6,14 +6,14 @@ use mathlib.Core.Logic.{_⊎_}
 use mathlib.Core.List.{List, _∷_, _++_, append-assoc}
 use lib.ListN.{length}
 use Rattle.pktree.specs.Lists.{Every}
-use Rattle.pktree.specs.Elements.{size}
+use Rattle.pktree.specs.Elements.{size, _⧺_}
 use Rattle.pktree.specs.Tree.{pixels}
 use Rattle.pktree.proofs.Arranged.{quarterLevel, LocallyRight}
 use Rattle.pktree.proofs.Regroup.{Disturbed}
 use Rattle.measures.specs.declared.sizes.Layout.{Layout}
 use Rattle.measures.specs.Sizes.{slotWidth, slotCount}
 use Rattle.measures.specs.Slot.{slotPart, OnlySlot}
-use Rattle.store.specs.Placed.{Placed, _⧻_, forestOf, slotsOf}
+use Rattle.store.specs.Placed.{Placed, slotsOf}
 use Rattle.store.specs.FreeSlots.{FreeSlots, occurrences}
 use Rattle.store.specs.Sound.{SlotsShared}
 use Rattle.store.proofs.Standing.{SlotSays, Stands, frame, every-right}
@@ -52,20 +52,20 @@ pub record Around (σ : Setting) (words : List ℕ) (way : List Frame) (s level 
   pub frames-stand : FramesStand (widthIn σ) words way s level code
   pub stands : Stands (widthIn σ) words es
   pub level-from : 1 ≤ level
-  pub disturbed : Disturbed (σ .k) (quarterLevel level) code (σ .x) (forestOf es)
-  pub fits : size (forestOf es) ≤ 5 * (σ .k - 1)
-  pub some : (level ≡ σ .m) ⊎ (1 ≤ size (forestOf es))
+  pub disturbed : Disturbed (σ .k) (quarterLevel level) code (σ .x) es
+  pub fits : size es ≤ 5 * (σ .k - 1)
+  pub some : (level ≡ σ .m) ⊎ (1 ≤ size es)
   pub free-chain : FreeSlots (widthIn σ) words free
   pub shared : SlotsShared (slotsIn σ) (waySlots way ++ (s ∷ slotsOf es)) free
-  pub pixels-are : pixels (forestOf (plug way s level code es)) ≡ σ .target
+  pub pixels-are : pixels (plug way s level code es) ≡ σ .target
 
 -- to be done: in the slot, the elements `removed` between a and b give way to `inserted`
 pub record Pending (σ : Setting) (words : List ℕ) (way : List Frame) (s level code : ℕ) (a removed inserted b : Placed) (free : List ℕ) : Type 0 where
-  pub around : Around σ words way s level code (a ⧻ (inserted ⧻ b)) free
-  pub says : SlotSays (slotPart (widthIn σ) words s) level code (a ⧻ (removed ⧻ b))
-  pub was-fit : size (forestOf (a ⧻ (removed ⧻ b))) ≤ 4 * (σ .k - 1)
+  pub around : Around σ words way s level code (a ⧺ (inserted ⧺ b)) free
+  pub says : SlotSays (slotPart (widthIn σ) words s) level code (a ⧺ (removed ⧺ b))
+  pub was-fit : size (a ⧺ (removed ⧺ b)) ≤ 4 * (σ .k - 1)
   -- where nothing comes, the rest is right
-  pub right-if-none-inserted : size (forestOf inserted) ≡ 0 → LocallyRight (σ .k) level code (forestOf (a ⧻ (inserted ⧻ b)))
+  pub right-if-none-inserted : size inserted ≡ 0 → LocallyRight (σ .k) level code (a ⧺ (inserted ⧺ b))
 
 -- done: the slot says the new elements
 pub record Laid (σ : Setting) (words : List ℕ) (way : List Frame) (s level code : ℕ) (es : Placed) (free : List ℕ) : Type 0 where

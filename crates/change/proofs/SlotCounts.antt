@@ -4,8 +4,9 @@ use native.Mathlib.Omega.{arith}
 use native.Mathlib.Decide.{decLt}
 use mathlib.Core.Path.{_≡_, refl, ap, _∙_}
 use mathlib.Core.List.{List, [], _∷_, _++_}
+use Rattle.pktree.specs.Elements.{_⧺_, blockAt}
 use Rattle.pktree.specs.Lists.{Every}
-use Rattle.store.specs.Placed.{Placed, blockThen, _⧻_, slotsOf}
+use Rattle.store.specs.Placed.{Placed, slotsOf}
 use Rattle.store.specs.FreeSlots.{occurrences}
 use Rattle.store.specs.Sound.{SlotsShared}
 use Rattle.store.proofs.FreeChains.{occurrences-same, occurrences-other, occurrences-join}
@@ -49,12 +50,12 @@ plug-slots t (f ∷ way) s i d es =
     let u : List ℕ = slotsOf (f .before) in
     let v : List ℕ = slotsOf (f .after) in
     let w : List ℕ = waySlots way in
-    let p = plug-slots t way (f .slot) (f .level) (f .code) (f .before ⧻ blockThen s i d es (f .after)) in
+    let p = plug-slots t way (f .slot) (f .level) (f .code) (f .before ⧺ blockAt s i d es (f .after)) in
     omega (
       arith,
       p,
-      occurrences-join t (f .slot ∷ []) (slotsOf (f .before ⧻ blockThen s i d es (f .after))),
-      ap (occurrences t) (slots-join (f .before) (blockThen s i d es (f .after))),
+      occurrences-join t (f .slot ∷ []) (slotsOf (f .before ⧺ blockAt s i d es (f .after))),
+      ap (occurrences t) (slots-join (f .before) (blockAt s i d es (f .after))),
       occurrences-join t u (s ∷ (slotsOf es ++ v)),
       occurrences-join t (s ∷ slotsOf es) v,
       occurrences-join t (f .slot ∷ []) (u ++ (v ++ w)),

@@ -16,7 +16,7 @@ use Rattle.measures.specs.Layout.{layoutOf, LayoutFits}
 use Rattle.measures.specs.Slot.{slotPart, countWord}
 use Rattle.store.specs.Opening.{HeaderSays, CannotOpen}
 use Rattle.measures.specs.declared.sizes.Layout.{Layout}
-use Rattle.store.specs.Placed.{Placed, forestOf}
+use Rattle.store.specs.Placed.{Placed}
 use Rattle.store.specs.Sound.{Sound}
 use Rattle.store.proofs.OpenedSlot as opened
 use Rattle.store.proofs.SoundView.{sound-view}
@@ -121,7 +121,7 @@ module _ {words : List ℕ} {layout : Layout} {order code : ℕ} {slots places :
         record { level-is = header .level-is; code-is = header .code-is; count-is = refl; laid = rw (header .count-is) (header .laid) } in
         h (rw (e .0, e .1, e .2) at own)
 
-    count-is : (placed : Placed) (args : SoundArguments words placed layout order code) → count ≡ size (forestOf (d .reached placed args .es))
+    count-is : (placed : Placed) (args : SoundArguments words placed layout order code) → count ≡ size (d .reached placed args .es)
     count-is placed args = sym (header .count-is) ∙ seen-here placed args .says .count-is
 
     pub few-elements : count ≤ 75

@@ -6,18 +6,18 @@ use mathlib.Core.Path.{_≡_, refl, ap, subst, sym, _∙_}
 use mathlib.Core.Bool.{Bool, true, false}
 use mathlib.Core.List.{List}
 use lib.ListN.{getD}
-use Rattle.pktree.specs.Elements.{empty, pixel, block, _⧺_, size}
+use Rattle.pktree.specs.Elements.{empty, pixel, block, _⧺_, size, blockAt}
 use Rattle.pktree.proofs.Alignment.{pow-pos}
 use Rattle.pktree.proofs.Windows.{within-multiple}
 use Rattle.pktree.proofs.Arranged.{Arranged, arranged-upper, arranged-join}
 use Rattle.pktree.proofs.Absurd.{zero-is-not-one}
+use Rattle.pktree.proofs.Forests.{join-assoc, size-join}
 use Rattle.measures.specs.Slot.{slotPart}
 use Rattle.store.specs.Element.{elementOf, elementAt}
 use Rattle.store.specs.Splice.{codeAt, PlaceOf}
 use Rattle.store.specs.declared.elements.Element.{Element}
 use Rattle.store.specs.declared.elements.Element.the-variants.{Pixel, Block}
-use Rattle.store.specs.Placed.{Placed, nothing, pixelThen, blockThen, _⧻_, forestOf}
-use Rattle.store.proofs.PlacedJoin.{placed-assoc, forest-join, size-placed-join}
+use Rattle.store.specs.Placed.{Placed}
 use Rattle.store.proofs.BlockView.{SplitAt, at-pixel, at-block, split-at, element-pixel, element-block, BlockView, ChildView, child-view}
 use Rattle.descent.specs.Looked.{OwnPixel, Between, LookedHere, InnerBlock}
 use Rattle.descent.specs.Located.{PlaceIn}
@@ -40,8 +40,8 @@ pub record EntersBlock (code place s i c : ℕ) (es : Placed) : Type 0 where
   pub before : Placed
   pub inside : Placed
   pub after : Placed
-  pub is : es ≡ before ⧻ blockThen s i c inside after
-  pub place-is : size (forestOf before) ≡ place
+  pub is : es ≡ before ⧺ blockAt s i c inside after
+  pub place-is : size before ≡ place
   pub holds : (c ≤ code) × (code < c + 4 ^ i)
 
 -- a block whose range holds the code
@@ -54,29 +54,29 @@ module _ {k width slots : ℕ} {words : List ℕ} {slot level from : ℕ} {es : 
   to = from + 4 ^ level
 
   abbrev count : ℕ
-  count = size (forestOf es)
+  count = size es
 
-  inner-view : (a : Placed) (s i c : ℕ) (fs b : Placed) → es ≡ a ⧻ blockThen s i c fs b → ChildView k width slots words level from s i c fs
+  inner-view : (a : Placed) (s i c : ℕ) (fs b : Placed) → es ≡ a ⧺ blockAt s i c fs b → ChildView k width slots words level from s i c fs
   inner-view a s i c fs b e = child-view k width slots words slot level from es a s i c fs b view e
 
   -- the words name the elements one by one
-  named-pixel : (a : Placed) (c : ℕ) (b : Placed) (place : ℕ) → es ≡ a ⧻ pixelThen c b → size (forestOf a) ≡ place → elementAt part place ≡ Pixel c
+  named-pixel : (a : Placed) (c : ℕ) (b : Placed) (place : ℕ) → es ≡ a ⧺ pixel c b → size a ≡ place → elementAt part place ≡ Pixel c
   named-pixel a c b place e n = rw n at (element-pixel part level from es a b (view .says) c e)
 
-  named-block : (a : Placed) (s i c : ℕ) (fs b : Placed) (place : ℕ) → es ≡ a ⧻ blockThen s i c fs b → size (forestOf a) ≡ place → elementAt part place ≡ Block s i c
+  named-block : (a : Placed) (s i c : ℕ) (fs b : Placed) (place : ℕ) → es ≡ a ⧺ blockAt s i c fs b → size a ≡ place → elementAt part place ≡ Block s i c
   named-block a s i c fs b place e n = rw n at (element-block part level from es a b (view .says) s i c fs e (inner-view a s i c fs b e .small))
 
-  parts : (a b : Placed) → es ≡ a ⧻ b → (mid : ℕ) × Arranged k level from mid (forestOf a) × Arranged k level mid to (forestOf b)
-  parts a b e = arranged-parts k level from to (forestOf a) (forestOf b) (subst (Arranged k level from to) (ap forestOf e ∙ forest-join a b) (view .right .arranged))
+  parts : (a b : Placed) → es ≡ a ⧺ b → (mid : ℕ) × Arranged k level from mid a × Arranged k level mid to b
+  parts a b e = arranged-parts k level from to a b (subst (Arranged k level from to) e (view .right .arranged))
 
   -- what follows the code's place starts above the code
-  above-place : (a b : Placed) (place mid : ℕ) → es ≡ a ⧻ b → size (forestOf a) ≡ place → PlaceOf part count code place
-      → Arranged k level mid to (forestOf b) → Arranged k level (suc code) to (forestOf b)
-  above-place a nothing place mid e n p h = ends
-  above-place a (pixelThen c b) place mid e n p h =
-      (omega (arith, p .after (omega (arith, ap (λ (t : Placed). size (forestOf t)) e, size-placed-join a (pixelThen c b))), code-of-element part place (named-pixel a c b place e n)), h .1)
-  above-place a (blockThen s i c fs b) place mid e n p h = (
-    omega (arith, p .after (omega (arith, ap (λ (t : Placed). size (forestOf t)) e, size-placed-join a (blockThen s i c fs b))), code-of-element part place (named-block a s i c fs b place e n)),
+  above-place : (a b : Placed) (place mid : ℕ) → es ≡ a ⧺ b → size a ≡ place → PlaceOf part count code place
+      → Arranged k level mid to b → Arranged k level (suc code) to b
+  above-place a empty place mid e n p h = ends
+  above-place a (pixel c b) place mid e n p h =
+      (omega (arith, p .after (omega (arith, ap size e, size-join a (pixel c b))), code-of-element part place (named-pixel a c b place e n)), h .1)
+  above-place a (blockAt s i c fs b) place mid e n p h = (
+    omega (arith, p .after (omega (arith, ap size e, size-join a (blockAt s i c fs b))), code-of-element part place (named-block a s i c fs b place e n)),
     h .1,
     h .2,
     h .3,
@@ -89,45 +89,45 @@ module _ {k width slots : ℕ} {words : List ℕ} {slot level from : ℕ} {es : 
   looked-between : (place : ℕ) → Between part count code place → PlaceIn k level from code to place false es
   looked-between zero h =
       record {
-        before = nothing;
+        before = empty;
         after = es;
         place-is = refl;
         below = starts;
-        above = above-place nothing es 0 from refl refl (h .place-of) (view .right .arranged);
+        above = above-place empty es 0 from refl refl (h .place-of) (view .right .arranged);
         is = ((λ e. zero-is-not-one (cc)), (λ e. refl));
       }
   looked-between (suc i) h = go (split-at es i (h .place-of .within))
     where
       -- the elements up to the place end at the code or before
-      up-to : (a last b : Placed) (mid : ℕ) → es ≡ a ⧻ (last ⧻ b) → size (forestOf last) ≡ 1 → size (forestOf a) ≡ i
-          → Arranged k level from code (forestOf a ⧺ forestOf last) → Arranged k level mid to (forestOf b) → PlaceIn k level from code to (suc i) false es
+      up-to : (a last b : Placed) (mid : ℕ) → es ≡ a ⧺ (last ⧺ b) → size last ≡ 1 → size a ≡ i
+          → Arranged k level from code (a ⧺ last) → Arranged k level mid to b → PlaceIn k level from code to (suc i) false es
       up-to a last b mid e one n low high =
-          let cut : es ≡ (a ⧻ last) ⧻ b = e ∙ sym (placed-assoc a last b) in
-          let m : size (forestOf (a ⧻ last)) ≡ suc i = omega (arith, size-placed-join a last) in
+          let cut : es ≡ (a ⧺ last) ⧺ b = e ∙ sym (join-assoc a last b) in
+          let m : size (a ⧺ last) ≡ suc i = omega (arith, size-join a last) in
           record {
-            before = a ⧻ last;
+            before = a ⧺ last;
             after = b;
             place-is = m;
-            below = rw (forest-join a last) low;
-            above = above-place (a ⧻ last) b (suc i) mid cut m (h .place-of) high;
+            below = low;
+            above = above-place (a ⧺ last) b (suc i) mid cut m (h .place-of) high;
             is = ((λ q. zero-is-not-one (cc)), (λ q. cut));
           }
 
       go : SplitAt es i → PlaceIn k level from code to (suc i) false es
       go (at-pixel a c b e n) =
           let named : elementAt part i ≡ Pixel c = named-pixel a c b i e n in
-          let (mid, low, high) = parts a (pixelThen c b) e in
+          let (mid, low, high) = parts a (pixel c b) e in
           let starts-below : c ≤ code = rw (code-of-element part i named) at (h .place-of .before i refl) in
           let other : c ≡ code → ⊥ = rw named at (h .ends i refl) in
-          up-to a (pixelThen c nothing) b (suc c) e refl n (arranged-join k level from mid code (forestOf a) (pixel c empty) low (high .0, omega arith)) (high .1)
+          up-to a (pixel c empty) b (suc c) e refl n (arranged-join k level from mid code a (pixel c empty) low (high .0, omega arith)) (high .1)
       go (at-block a s j c fs b e n) =
           let named : elementAt part i ≡ Block s j c = named-block a s j c fs b i e n in
-          let (mid, low, high) = parts a (blockThen s j c fs b) e in
+          let (mid, low, high) = parts a (blockAt s j c fs b) e in
           let starts-below : c ≤ code = rw (code-of-element part i named) at (h .place-of .before i refl) in
           let other : c / 4 ^ j ≡ code / 4 ^ j → ⊥ = rw named at (h .ends i refl) in
           let ends-below : c + 4 ^ j < suc code = lt-of-not-le (λ t. other (sym (within-multiple (4 ^ j) c code (pow-pos j) (high .4) .0 (starts-below, t)))) in
-          up-to a (blockThen s j c fs nothing) b (c + 4 ^ j) e refl n
-          (arranged-join k level from mid code (forestOf a) (block j c (forestOf fs) empty) low
+          up-to a (blockAt s j c fs empty) b (c + 4 ^ j) e refl n
+          (arranged-join k level from mid code a (blockAt s j c fs empty) low
           (high .0, high .1, high .2, high .3, high .4, high .5, high .6, omega arith))
           (high .7)
 
@@ -137,12 +137,12 @@ module _ {k width slots : ℕ} {words : List ℕ} {slot level from : ℕ} {es : 
       go : SplitAt es place → PlaceIn k level from code to place true es
       go (at-pixel a c b e n) =
           let own : c ≡ code = cc (named-pixel a c b place e n, h .pixel) in
-          let (mid, low, high) = parts a (pixelThen c b) e in
+          let (mid, low, high) = parts a (pixel c b) e in
           record {
             before = a;
             after = b;
             place-is = n;
-            below = arranged-upper k level from mid code (forestOf a) (omega arith) low;
+            below = arranged-upper k level from mid code a (omega arith) low;
             above = rw own at (high .1);
             is = ((λ t. rw own at e), (λ t. zero-is-not-one (cc)));
           }
@@ -158,7 +158,7 @@ module _ {k width slots : ℕ} {words : List ℕ} {slot level from : ℕ} {es : 
       go : SplitAt es place → EntersBlock code place s i c es
       go (at-pixel a d b e n) = zero-is-not-one (cc (named-pixel a d b place e n, h .block))
       go (at-block a t j d fs b e n) =
-          let e′ : es ≡ a ⧻ blockThen s i c fs b = cc (named-block a t j d fs b place e n, h .block, e) in
+          let e′ : es ≡ a ⧺ blockAt s i c fs b = cc (named-block a t j d fs b place e n, h .block, e) in
           record {
             before = a;
             inside = fs;

@@ -9,14 +9,14 @@ use lib.ListN.{length, getD}
 use borrow.Author.Tests.{lt-ltb, le-ltb, le-leb, lt-leb, eq-eqb}
 use Rattle.pktree.specs.Lists.{select}
 use Rattle.pktree.specs.PixelSet.{member}
-use Rattle.pktree.specs.Elements.{Forest, empty, pixel, block, _⧺_}
+use Rattle.pktree.specs.Elements.{Forest, empty, pixel, block, _⧺_, blockAt}
 use Rattle.pktree.specs.Tree.{BlockOf, blocks, pixels}
 use Rattle.pktree.specs.Window.{holdsPixel, openedByPixel}
 use Rattle.pktree.proofs.Forests.{blocks-join}
 use Rattle.pktree.proofs.Arranged.{Arranged, arranged-le, member-append, member-join, member-after, member-before}
-use Rattle.store.specs.Placed.{Placed, pixelThen, blockThen, forestOf}
+use Rattle.store.specs.Placed.{Placed, forestOf}
 use Rattle.store.specs.Sound.{Sound}
-use Rattle.store.proofs.PlacedJoin.{forest-join}
+use Rattle.pktree.proofs.Unlabelled.{unlabelled-join, pixels-unlabelled, arranged-unlabelled, local-unlabelled}
 use Rattle.descent.specs.Way.{Frame, plug}
 use Rattle.descent.specs.declared.Located.{Located}
 use Rattle.descent.specs.Located.{PlaceIn, LocatedIn}
@@ -41,14 +41,14 @@ module _ (code : ℕ) where
   opened-above : (k n from to : ℕ) (f : Forest) → Arranged k n from to f → code < from → openedByPixel code f ≡ 0
   opened-above k n from to empty h p = refl
   opened-above k n from to (pixel c f) h p = opened-above k n (suc c) to f (h .1) (omega arith)
-  opened-above k n from to (block i c es f) h p =
+  opened-above k n from to (blockAt v i c es f) h p =
       rw (lt-leb c code (omega arith)) (passing-join (holdsPixel code) (blocks es) (blocks f)
       ∙ ap₂ _+_ (opened-above k i c (c + 4 ^ i) es (h .6) (omega arith)) (opened-above k n (c + 4 ^ i) to f (h .7) (omega arith)))
 
   opened-below : (k n from to : ℕ) (f : Forest) → Arranged k n from to f → to ≤ code → openedByPixel code f ≡ 0
   opened-below k n from to empty h p = refl
   opened-below k n from to (pixel c f) h p = opened-below k n (suc c) to f (h .1) p
-  opened-below k n from to (block i c es f) h p =
+  opened-below k n from to (blockAt v i c es f) h p =
       let e : c + 4 ^ i ≤ to = arranged-le k n (c + 4 ^ i) to f (h .7) in
       rw (le-ltb code (c + 4 ^ i) (omega arith), and-false (leb c code)) (passing-join (holdsPixel code) (blocks es) (blocks f)
       ∙ ap₂ _+_ (opened-below k i c (c + 4 ^ i) es (h .6) (omega arith)) (opened-below k n (c + 4 ^ i) to f (h .7) p))
@@ -84,12 +84,12 @@ module _ (code : ℕ) where
 
   among-at-place : (k n from to place : ℕ) (marked : Bool) (es : Placed) → PlaceIn k n from code to place marked es → CodeAmong (forestOf es) 0 marked
   among-at-place k n from to place true es h =
-      rw (h .is .0 refl, forest-join (h .before) (pixelThen code (h .after)))
-      (among-beside k n from code (suc code) to (forestOf (h .before)) (pixel code empty) (forestOf (h .after)) 0 true (h .below) (omega arith) (h .above) (omega arith)
+      rw (h .is .0 refl, unlabelled-join (h .before) (pixel code (h .after)))
+      (among-beside k n from code (suc code) to (forestOf (h .before)) (pixel code empty) (forestOf (h .after)) 0 true (arranged-unlabelled k n from code (h .before) (h .below)) (omega arith) (arranged-unlabelled k n (suc code) to (h .after) (h .above)) (omega arith)
       (record { opened-is = refl; marked-is = rw (eq-eqb code code refl) }))
   among-at-place k n from to place false es h =
-      rw (h .is .1 refl, forest-join (h .before) (h .after))
-      (among-beside k n from code (suc code) to (forestOf (h .before)) empty (forestOf (h .after)) 0 false (h .below) (omega arith) (h .above) (omega arith)
+      rw (h .is .1 refl, unlabelled-join (h .before) (h .after))
+      (among-beside k n from code (suc code) to (forestOf (h .before)) empty (forestOf (h .after)) 0 false (arranged-unlabelled k n from code (h .before) (h .below)) (omega arith) (arranged-unlabelled k n (suc code) to (h .after) (h .above)) (omega arith)
       (record { opened-is = refl; marked-is = refl }))
 
   -- each block on the way is one more that holds the code
@@ -102,9 +102,9 @@ module _ (code : ℕ) where
   among-on-way {words} sound (f ∷ way) slot level c es whole p q opened marked s =
       let v = seen-on-way sound way (f .slot) (f .level) (f .code) (around f slot level c es) whole in
       let child = seen-inside words f slot level c es v in
-      let joined : forestOf (around f slot level c es) ≡ forestOf (f .before) ⧺ block level c (forestOf es) (forestOf (f .after)) = forest-join (f .before) (blockThen slot level c es (f .after)) in
+      let joined : forestOf (around f slot level c es) ≡ forestOf (f .before) ⧺ block level c (forestOf es) (forestOf (f .after)) = unlabelled-join (f .before) (blockAt slot level c es (f .after)) in
       let (mid, low, high) = arranged-parts _ (f .level) (f .code) (f .code + 4 ^ f .level) (forestOf (f .before)) (block level c (forestOf es) (forestOf (f .after)))
-      (subst (Arranged _ (f .level) (f .code) (f .code + 4 ^ f .level)) joined (v .right .arranged)) in
+      (subst (Arranged _ (f .level) (f .code) (f .code + 4 ^ f .level)) joined (local-unlabelled (v .right) .arranged)) in
       let n : suc (length way) + opened ≡ length way + suc opened = omega arith in
       rw n (among-on-way sound way (f .slot) (f .level) (f .code) (around f slot level c es) whole (omega (arith, child .starts)) (omega (arith, child .ends)) (suc opened) marked
       (rw joined (among-beside _ (f .level) (f .code) mid (c + 4 ^ level) (f .code + 4 ^ f .level) (forestOf (f .before)) (block level c (forestOf es) empty) (forestOf (f .after)) (suc opened) marked
@@ -120,5 +120,5 @@ module _ {words slots places : List ℕ} {placed : Placed} {code : ℕ} {r : Loc
   pub opened-by-pixel : openedByPixel code (forestOf placed) ≡ suc (r .depth)
   opened-by-pixel = omega (arith, among-located .opened-is, h .depth)
 
-  pub marked-exactly : member (pixels (forestOf placed)) code ≡ r .marked
-  marked-exactly = among-located .marked-is
+  pub marked-exactly : member (pixels placed) code ≡ r .marked
+  marked-exactly = rw (← pixels-unlabelled placed) (among-located .marked-is)

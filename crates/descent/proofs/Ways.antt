@@ -5,9 +5,9 @@ use mathlib.Core.Path.{_≡_, refl}
 use mathlib.Core.List.{List, [], _∷_}
 use lib.ListN.{length, getD, set}
 use lib.Seq.{getD-set-same, getD-set-other}
-use Rattle.pktree.specs.Elements.{size}
+use Rattle.pktree.specs.Elements.{size, _⧺_, blockAt}
 use Rattle.measures.specs.Sizes.{slotCount, slotWidth}
-use Rattle.store.specs.Placed.{Placed, blockThen, _⧻_, forestOf}
+use Rattle.store.specs.Placed.{Placed}
 use Rattle.store.specs.Sound.{Sound}
 use Rattle.store.proofs.SoundView.{sound-view}
 use Rattle.store.proofs.BlockView.{BlockView, ChildView, child-view, root-view}
@@ -24,7 +24,7 @@ SeenInside words outer-level outer-code slot level code es =
 
 -- the elements of a frame's block
 abbrev pub around : Frame → ℕ → ℕ → ℕ → Placed → Placed
-around f slot level code es = f .before ⧻ blockThen slot level code es (f .after)
+around f slot level code es = f .before ⧺ blockAt slot level code es (f .after)
 
 pub seen-inside : (words : List ℕ) (f : Frame) (slot level code : ℕ) (es : Placed) → Seen words (f .slot) (f .level) (f .code) (around f slot level code es)
     → SeenInside words (f .level) (f .code) slot level code es
@@ -51,7 +51,7 @@ names-stay slots places d s p (f ∷ way) h names =
     let away : length way ≡ d → ⊥ = λ e. omega arith in
     (rw (getD-set-other slots d (length way) s 0 away) (names .0), rw (getD-set-other places d (length way) p 0 away) (names .1), names-stay slots places d s p way (omega arith) (names .2))
 
-pub names-more : (slots places : List ℕ) (f : Frame) (way : List Frame) (d p : ℕ) → d ≡ length way → d < length slots → d < length places → size (forestOf (f .before)) ≡ p
+pub names-more : (slots places : List ℕ) (f : Frame) (way : List Frame) (d p : ℕ) → d ≡ length way → d < length slots → d < length places → size (f .before) ≡ p
     → PathNames slots places way → PathNames (set slots d (f .slot)) (set places d p) (f ∷ way)
 names-more slots places f way d p e hs hp q names = (
   rw (← e) (getD-set-same slots d (f .slot) 0 hs),

@@ -5,13 +5,13 @@ use mathlib.Core.Bool.{Bool, true, false}
 use mathlib.Core.Logic.{_⊎_}
 use mathlib.Core.List.{List, [], _∷_}
 use lib.ListN.{length, getD}
-use Rattle.pktree.specs.Elements.{size}
+use Rattle.pktree.specs.Elements.{size, _⧺_, pixel}
 use Rattle.pktree.proofs.Arranged.{Arranged}
 use Rattle.measures.specs.Sizes.{sizesOf}
 use Rattle.measures.specs.Layout.{layoutOf}
 use Rattle.store.specs.Opening.{CannotOpen}
 use Rattle.measures.specs.declared.sizes.Layout.{Layout}
-use Rattle.store.specs.Placed.{Placed, pixelThen, forestOf, _⧻_}
+use Rattle.store.specs.Placed.{Placed}
 use Rattle.store.specs.Sound.{Sound}
 use Rattle.descent.specs.declared.Located.{Located}
 use Rattle.descent.specs.Way.{Frame, plug}
@@ -20,16 +20,16 @@ use Rattle.descent.specs.Way.{Frame, plug}
 abbrev pub PathNames : List ℕ → List ℕ → List Frame → Type 0
 PathNames slots places [] = Unit {0}
 PathNames slots places (f ∷ way) =
-    (getD slots (length way) 0 ≡ f .slot) × (getD places (length way) 0 ≡ size (forestOf (f .before))) × PathNames slots places way
+    (getD slots (length way) 0 ≡ f .slot) × (getD places (length way) 0 ≡ size (f .before)) × PathNames slots places way
 
 -- where the code stands: at a pixel of its own, or between two elements
 pub record PlaceIn (k level from code to place : ℕ) (marked : Bool) (es : Placed) : Type 0 where
   pub before : Placed
   pub after : Placed
-  pub place-is : size (forestOf before) ≡ place
-  pub below : Arranged k level from code (forestOf before)
-  pub above : Arranged k level (suc code) to (forestOf after)
-  pub is : (marked ≡ true → es ≡ before ⧻ pixelThen code after) × (marked ≡ false → es ≡ before ⧻ after)
+  pub place-is : size before ≡ place
+  pub below : Arranged k level from code before
+  pub above : Arranged k level (suc code) to after
+  pub is : (marked ≡ true → es ≡ before ⧺ pixel code after) × (marked ≡ false → es ≡ before ⧺ after)
 
 -- on a sound store: the block at the end of the way
 pub record LocatedIn (words : List ℕ) (placed : Placed) (code : ℕ) (slots places : List ℕ) (r : Located) : Type 0 where

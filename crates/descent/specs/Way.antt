@@ -1,7 +1,8 @@
 -- The way from the root of a tree down to one of its blocks, with what stands beside it.
 use Prim.Native.Nat.{ℕ}
 use mathlib.Core.List.{List, [], _∷_}
-use Rattle.store.specs.Placed.{Placed, nothing, blockThen, _⧻_}
+use Rattle.pktree.specs.Elements.{_⧺_, blockAt, empty}
+use Rattle.store.specs.Placed.{Placed}
 
 -- a block that was passed: its slot, level and code, and its elements before and after the one that was entered
 pub record Frame : Type 0 where
@@ -13,5 +14,5 @@ pub record Frame : Type 0 where
 
 -- the tree in which the block of this slot, level and code with these elements stands at the end of the way, the last frame first
 abbrev pub plug : List Frame → ℕ → ℕ → ℕ → Placed → Placed
-plug [] slot level code es = blockThen slot level code es nothing
-plug (f ∷ way) slot level code es = plug way (f .slot) (f .level) (f .code) (f .before ⧻ blockThen slot level code es (f .after))
+plug [] slot level code es = blockAt slot level code es empty
+plug (f ∷ way) slot level code es = plug way (f .slot) (f .level) (f .code) (f .before ⧺ blockAt slot level code es (f .after))

@@ -9,14 +9,8 @@ use Rattle.register.specs.declared.Counting.{Counting}
 use Rattle.register.specs.declared.Listing.{Listing}
 use Rattle.register.specs.declared.Saving.{Saving}
 use Rattle.register.specs.declared.Checking.{Checking}
-use Rattle.register.specs.Mark.{MarkMeets}
-use Rattle.register.specs.Clear.{ClearMeets}
-use Rattle.register.specs.Ask.{AskMeets}
-use Rattle.register.specs.Count.{CountMeets}
-use Rattle.register.specs.List.{ListMeets}
-use Rattle.register.specs.Save.{SaveMeets}
-use Rattle.register.specs.Load.{LoadMeets}
-use Rattle.register.specs.Check.{CheckMeets}
+use Rattle.register.specs.Answer.{answer, askAnswer, countAnswer, listAnswer, saveAnswer, checkAnswer}
+use Rattle.register.specs.Calls.{MarkMeets, ClearMeets, AskMeets, CountMeets, ListMeets, SaveMeets, LoadMeets, CheckMeets}
 use Rattle.history.specs.Survivors.{Call, mark, clear, ask, count, list, save, load, check}
 use Rattle.history.specs.Run as steps
 use Rattle.history.specs.Run.{Step, SaveRun, Run, done, then}
@@ -26,30 +20,30 @@ abbrev pub lent : List ℕ → RefT (List ℕ)
 lent words = record { ptr = (0, 0); name = 0; now = words }
 
 module _ (before after : List ℕ) (x y : ℕ) where
-  pub mark-step : (r : Outcome) → MarkMeets before after x y r → Step (mark x y) before after
+  pub mark-step : (r : Outcome) → MarkMeets before after x y (answer r) → Step (mark x y) before after
   mark-step r m = steps.by-mark ([], tt) (lent before) x y r after m
 
-  pub clear-step : (r : Outcome) → ClearMeets before after x y r → Step (clear x y) before after
+  pub clear-step : (r : Outcome) → ClearMeets before after x y (answer r) → Step (clear x y) before after
   clear-step r m = steps.by-clear ([], tt) (lent before) x y r after m
 
-pub ask-step : (words : List ℕ) (x y : ℕ) (r : Asking) → AskMeets words x y r → Step (ask x y) words words
+pub ask-step : (words : List ℕ) (x y : ℕ) (r : Asking) → AskMeets words x y (askAnswer r) → Step (ask x y) words words
 ask-step words x y r m = steps.by-ask ([], tt) (lent words) x y r m
 
 module _ (words : List ℕ) (x0 y0 x1 y1 : ℕ) where
-  pub count-step : (r : Counting) → CountMeets words x0 y0 x1 y1 r → Step (count x0 y0 x1 y1) words words
+  pub count-step : (r : Counting) → CountMeets words x0 y0 x1 y1 (countAnswer r) → Step (count x0 y0 x1 y1) words words
   count-step r m = steps.by-count ([], tt) (lent words) x0 y0 x1 y1 r m
 
-  pub list-step : (output written : List ℕ) (r : Listing) → ListMeets words x0 y0 x1 y1 output written r → Step (list x0 y0 x1 y1 output) words words
+  pub list-step : (output written : List ℕ) (r : Listing) → ListMeets words x0 y0 x1 y1 output written (listAnswer r) → Step (list x0 y0 x1 y1 output) words words
   list-step output written r m = steps.by-list ([], ([], tt)) (lent words) (lent output) x0 y0 x1 y1 r written m
 
-pub save-step : (words output written : List ℕ) (r : Saving) → SaveMeets words output written r → Step (save output) words words
+pub save-step : (words output written : List ℕ) (r : Saving) → SaveMeets words output written (saveAnswer r) → Step (save output) words words
 save-step words output written r m =
     steps.Step.by-save words output r written (steps.SaveRun.by-save ([], ([], tt)) (lent words) (lent output) refl refl m)
 
-pub load-step : (before after bytes : List ℕ) (r : Outcome) → LoadMeets before after bytes r → Step (load bytes) before after
+pub load-step : (before after bytes : List ℕ) (r : Outcome) → LoadMeets before after bytes (answer r) → Step (load bytes) before after
 load-step before after bytes r m = steps.by-load ([], ([], tt)) (lent before) (lent bytes) r after m
 
-pub check-step : (words : List ℕ) (r : Checking) → CheckMeets words r → Step check words words
+pub check-step : (words : List ℕ) (r : Checking) → CheckMeets words (checkAnswer r) → Step check words words
 check-step words r m = steps.by-check ([], tt) (lent words) r m
 
 pub run-then : {calls : List Call} {call : Call} {before between after : List ℕ} → Run calls before between → Step call between after

@@ -1,6 +1,7 @@
 pub mod ImageTests
 pub mod Steps
 pub mod Runs
+pub mod FullSave
 pub mod TwoLists
 pub mod Routines
 pub mod CallSteps

@@ -2,6 +2,7 @@
 use Prim.Native.Nat.{ℕ}
 use mathlib.Core.List.{List, []}
 use Rattle.measures.specs.declared.sizes.Sizes.{Sizes}
+use Rattle.register.proofs.Makes.{accepted-makes}
 use Rattle.history.specs.Survivors.{Call, next, surviving, survivors}
 use Rattle.history.specs.Run.{Fresh, by-make, Run, done, then, History}
 use Rattle.history.proofs.Steps.{InStep, step-keeps}
@@ -13,7 +14,7 @@ run-keeps sizes set (then {call} step run) h = run-keeps sizes (next sizes set c
 
 -- an accepted make leaves the empty register
 fresh-is-empty : (sizes : Sizes) {words : List ℕ} → Fresh sizes words → InStep sizes [] words
-fresh-is-empty sizes (by-make κs s r after m e) = let d = m .made e in record { holds = d .0; sized = d .1 }
+fresh-is-empty sizes (by-make κs s r after m e) = let d = accepted-makes m e in record { holds = d .holds; sized = d .sizes-are }
 
 pub history-keeps : (sizes : Sizes) (calls : List Call) (words : List ℕ) → History sizes calls words → InStep sizes (survivors sizes calls) words
 history-keeps sizes calls words h = run-keeps sizes [] (h .run) (fresh-is-empty sizes (h .made))

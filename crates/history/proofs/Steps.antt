@@ -6,7 +6,7 @@ use mathlib.Core.Bool.{Bool, true, false, _&&_, not, cond}
 use mathlib.Core.List.{List}
 use lib.Dec.{ltb}
 use lib.ListN.{length, getD}
-use borrow.Author.Tests.{ltb-true, ltb-false, lt-ltb}
+use borrow.Author.Tests.{ltb-true, lt-ltb}
 use denote.Ref.{now}
 use Rattle.morton.specs.Code.{codeOf}
 use Rattle.pktree.specs.Panel.{HasPixel, isPixel}
@@ -14,12 +14,11 @@ use Rattle.pktree.specs.PixelSet.{member, added, removed}
 use Rattle.measures.specs.declared.sizes.Sizes.{Sizes}
 use Rattle.measures.specs.Sizes.{panelOf, sizesOf}
 use Rattle.store.specs.Sound.{Holds}
-use Rattle.register.specs.declared.Outcome.{Outcome}
-use Rattle.register.specs.Answer.{Answer, accepted, refused}
-use Rattle.register.specs.Change.{WordsLeft}
-use Rattle.register.specs.Mark.{MarkMeets}
-use Rattle.register.specs.Clear.{ClearMeets}
-use Rattle.register.specs.Load.{LoadMeets}
+use Rattle.register.specs.Answer.{Answer, answer}
+use Rattle.register.specs.Effect.{effect}
+use Rattle.register.specs.Calls.{Marks, MarkMeets, Clears, ClearMeets, LoadMeets}
+use Rattle.register.proofs.Ladder.{where-holds, where-fails}
+use Rattle.register.proofs.Loads.{image-loaded, else-unchanged}
 use Rattle.image.specs.Parts.{pixelsOf}
 use Rattle.history.specs.Survivors.{Call, mark, clear, load, isReplaced, next}
 use Rattle.history.specs.Run.{Step, by-mark, by-clear, by-ask, by-count, by-list, by-save, by-load, by-check}
@@ -48,53 +47,47 @@ off-panel sizes x y e h = both (rw (lt-ltb x (2 ^ sizes .order) (h .0), lt-ltb y
 same-words : {sizes : Sizes} {set before after : List ℕ} → after ≡ before → InStep sizes set before → InStep sizes set after
 same-words {sizes} {set} e h = subst (InStep sizes set) (sym e) h
 
--- a refusal but 13 leaves the store
-refused-leaves : {sizes : Sizes} {set before after : List ℕ} {a : Answer} (n : ℕ) → a ≡ refused n → (n ≡ 0 → ⊥) → (n ≡ 13 → ⊥)
-    → WordsLeft before after a → InStep sizes set before → InStep sizes set after
-refused-leaves {sizes} {set} {before} {after} {a} n e z d left h =
-    let number : a .refusal ≡ n = ap (λ (b : Answer). b .refusal) e in
-    same-words (left .unchanged (λ p. z (sym number ∙ p)) (λ p. d (sym number ∙ p))) h
+module _ (before after : List ℕ) (x y : ℕ) (a : Answer) (set : List ℕ) (h : InStep (sizesOf before) set before) where
+  abbrev sizes : Sizes
+  sizes = sizesOf before
 
-module _ (before after : List ℕ) (x y : ℕ) (r : Outcome) (set : List ℕ) (h : InStep (sizesOf before) set before) where
-  off-panel-leaves : {a : Answer} → a .refusal ≡ 4 → WordsLeft before after a → InStep (sizesOf before) set after
-  off-panel-leaves e left = same-words (left .unchanged (λ p. absurd (omega (arith, e, p))) (λ p. absurd (omega (arith, e, p)))) h
-
-  mark-next : MarkMeets before after x y r → InStep (sizesOf before) (next (sizesOf before) set (mark x y)) after
-  mark-next m = go (isPixel (panelOf (sizesOf before)) x y) refl (member set (codeOf x y)) refl (ltb (length set) (getD before 3 0)) refl
+  mark-next : MarkMeets before after x y a → InStep sizes (next sizes set (mark x y)) after
+  mark-next m = go (isPixel (panelOf sizes) x y) refl (member set (codeOf x y)) refl (ltb (length set) (sizes .most)) refl
     where
-      go : (p : Bool) → isPixel (panelOf (sizesOf before)) x y ≡ p → (q : Bool) → member set (codeOf x y) ≡ q → (t : Bool) → ltb (length set) (getD before 3 0) ≡ t
-          → InStep (sizesOf before) (cond (p && (not q && t)) (added (codeOf x y) set) set) after
-      go false p q e t f = off-panel-leaves (m .refusals .off-panel .1 (h .holds .sound .usable, off-panel (sizesOf before) x y p)) (m .left)
-      go true p true e t f =
-          refused-leaves 5 (m .already set (h .holds) (on-panel (sizesOf before) x y p) e) (λ z. omega (arith, z)) (λ z. omega (arith, z)) (m .left) h
-      go true p false e false f =
-          refused-leaves 6 (m .full set (h .holds) (on-panel (sizesOf before) x y p) e (ltb-false (length set) (getD before 3 0) f))
-          (λ z. omega (arith, z)) (λ z. omega (arith, z)) (m .left) h
+      on : isPixel (panelOf sizes) x y ≡ true → Marks before (codeOf x y) (effect a before after)
+      on p = where-holds (where-holds m (h .holds .sound .usable)) (on-panel sizes x y p)
+
+      go : (p : Bool) → isPixel (panelOf sizes) x y ≡ p → (q : Bool) → member set (codeOf x y) ≡ q → (t : Bool) → ltb (length set) (sizes .most) ≡ t
+          → InStep sizes (cond (p && (not q && t)) (added (codeOf x y) set) set) after
+      go false p q e t f = same-words (where-fails (where-holds m (h .holds .sound .usable)) (off-panel sizes x y p) .same) h
+      go true p true e t f = same-words (where-fails (on p .sound set (h .holds)) (both e) .same) h
+      go true p false e false f = same-words (where-fails (where-holds (on p .sound set (h .holds)) e) (λ l. both (lt-ltb (length set) (sizes .most) l) f) .same) h
       go true p false e true f =
-          let d = m .marked set (h .holds) (on-panel (sizesOf before) x y p) e (ltb-true (length set) (getD before 3 0) f) in
-          record { holds = d .1; sized = d .2 }
+          let d = where-holds (where-holds (on p .sound set (h .holds)) e) (ltb-true (length set) (sizes .most) f) in
+          record { holds = d .holds; sized = d .sizes-are }
 
-  clear-next : ClearMeets before after x y r → InStep (sizesOf before) (next (sizesOf before) set (clear x y)) after
-  clear-next m = go (isPixel (panelOf (sizesOf before)) x y) refl (member set (codeOf x y)) refl
+  clear-next : ClearMeets before after x y a → InStep sizes (next sizes set (clear x y)) after
+  clear-next m = go (isPixel (panelOf sizes) x y) refl (member set (codeOf x y)) refl
     where
-      go : (p : Bool) → isPixel (panelOf (sizesOf before)) x y ≡ p → (q : Bool) → member set (codeOf x y) ≡ q
-          → InStep (sizesOf before) (cond (p && q) (removed (codeOf x y) set) set) after
-      go false p q e = off-panel-leaves (m .refusals .off-panel .1 (h .holds .sound .usable, off-panel (sizesOf before) x y p)) (m .left)
-      go true p false e =
-          refused-leaves 7 (m .unmarked set (h .holds) (on-panel (sizesOf before) x y p) e) (λ z. omega (arith, z)) (λ z. omega (arith, z)) (m .left) h
-      go true p true e = let d = m .cleared set (h .holds) (on-panel (sizesOf before) x y p) e in record { holds = d .1; sized = d .2 }
+      on : isPixel (panelOf sizes) x y ≡ true → Clears before (codeOf x y) (effect a before after)
+      on p = where-holds (where-holds m (h .holds .sound .usable)) (on-panel sizes x y p)
 
-load-next : (before after bytes : List ℕ) (r : Outcome) (set : List ℕ) → InStep (sizesOf before) set before → LoadMeets before after bytes r
+      go : (p : Bool) → isPixel (panelOf sizes) x y ≡ p → (q : Bool) → member set (codeOf x y) ≡ q → InStep sizes (cond (p && q) (removed (codeOf x y) set) set) after
+      go false p q e = same-words (where-fails (where-holds m (h .holds .sound .usable)) (off-panel sizes x y p) .same) h
+      go true p false e = same-words (where-fails (on p .sound set (h .holds)) (λ t. both t e) .same) h
+      go true p true e = let d = where-holds (on p .sound set (h .holds)) e in record { holds = d .holds; sized = d .sizes-are }
+
+load-next : (before after bytes : List ℕ) (a : Answer) (set : List ℕ) → InStep (sizesOf before) set before → LoadMeets before after bytes a
     → InStep (sizesOf before) (next (sizesOf before) set (load bytes)) after
-load-next before after bytes r set h m = go (isReplaced (sizesOf before) bytes) refl
+load-next before after bytes a set h m = go (isReplaced (sizesOf before) bytes) refl
   where
     go : (p : Bool) → isReplaced (sizesOf before) bytes ≡ p → InStep (sizesOf before) (cond p (pixelsOf bytes) set) after
     go true p =
-        let d = m .loaded (pixelsOf bytes) (h .holds .sound .usable) (test-says (panelOf (sizesOf before)) (getD before 3 0) bytes (pixelsOf bytes) p) in
-        record { holds = d .1; sized = d .2 }
+        let d = image-loaded m (h .holds .sound .usable) (test-says (panelOf (sizesOf before)) (getD before 3 0) bytes (pixelsOf bytes) p) in
+        record { holds = d .holds; sized = d .sizes-are }
     go false p =
         let valid = h .holds .sound .usable .valid in
-        same-words (m .unchanged (λ e. both (some-passes (panelOf (sizesOf before)) (getD before 3 0) bytes (valid .panel) (valid .most-to) (m .accepted .0 e .1)) p)) h
+        same-words (else-unchanged m (λ s. both (some-passes (panelOf (sizesOf before)) (getD before 3 0) bytes (valid .panel) (valid .most-to) s) p)) h
 
 -- of the sizes that the store says
 abbrev at-own-sizes : {sizes : Sizes} {set words : List ℕ} → InStep sizes set words → InStep (sizesOf words) set words
@@ -106,11 +99,11 @@ to-sizes {sizes} {set} {before} {after} call h g = subst (λ (z : Sizes). InStep
 
 pub step-keeps : (sizes : Sizes) (set : List ℕ) {call : Call} {before after : List ℕ} → Step call before after → InStep sizes set before
     → InStep sizes (next sizes set call) after
-step-keeps sizes set (by-mark κs s x y r after m) h = to-sizes (mark x y) h (mark-next (now s) after x y r set (at-own-sizes h) m)
-step-keeps sizes set (by-clear κs s x y r after m) h = to-sizes (clear x y) h (clear-next (now s) after x y r set (at-own-sizes h) m)
+step-keeps sizes set (by-mark κs s x y r after m) h = to-sizes (mark x y) h (mark-next (now s) after x y (answer r) set (at-own-sizes h) m)
+step-keeps sizes set (by-clear κs s x y r after m) h = to-sizes (clear x y) h (clear-next (now s) after x y (answer r) set (at-own-sizes h) m)
 step-keeps sizes set (by-ask κs s x y r m) h = h
 step-keeps sizes set (by-count κs s x0 y0 x1 y1 r m) h = h
 step-keeps sizes set (by-list κs s o x0 y0 x1 y1 r written m) h = h
 step-keeps sizes set (by-save words output r written m) h = h
-step-keeps sizes set (by-load κs s i r after m) h = to-sizes (load (now i)) h (load-next (now s) after (now i) r set (at-own-sizes h) m)
+step-keeps sizes set (by-load κs s i r after m) h = to-sizes (load (now i)) h (load-next (now s) after (now i) (answer r) set (at-own-sizes h) m)
 step-keeps sizes set (by-check κs s r m) h = h

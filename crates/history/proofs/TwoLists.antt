@@ -1,10 +1,9 @@
 -- 01, demand 3: one claim about every two lists of calls after make.
 use Prim.Native.Nat.{ℕ, _+_, _-_, _*_, _/_, _≤_}
 use native.Mathlib.Omega.{arith}
-use native.Mathlib.Decide.{decLe}
 use mathlib.Core.Path.{_≡_, refl, ap, ap₂, subst, subst₂, sym, _∙_}
 use mathlib.Core.Logic.{_⊎_, inl, inr, _↔_}
-use mathlib.Core.List.{List, List·Memᴰ}
+use mathlib.Core.List.{List, [], List·Memᴰ, _++_}
 use lib.ListN.{length, take, drop}
 use lib.Seq.{take-at}
 use Rattle.pktree.specs.PixelSet.{member, PixelSet}
@@ -16,15 +15,22 @@ use Rattle.pktree.proofs.InTree.{in-tree-exactly-instantiated}
 use Rattle.pktree.proofs.Sizes as sizes-of-blocks
 use Rattle.pktree.proofs.BlockNumber as number
 use Rattle.pktree.proofs.Images.{image-determines-set}
+use Rattle.pktree.proofs.Unlabelled.{pixels-unlabelled}
 use Rattle.measures.specs.declared.sizes.Sizes.{Sizes}
 use Rattle.measures.specs.Sizes.{panelOf, sizesOf, ValidSizes}
 use Rattle.store.specs.Placed.{forestOf}
 use Rattle.register.specs.declared.Saving.{Saving}
-use Rattle.register.specs.Answer.{Answer, saveAnswer}
-use Rattle.register.specs.Save.{SaveMeets}
+use Rattle.register.specs.declared.Saving.the-variants.{Saved}
+use Rattle.register.specs.Answer.{Answer, accepted, saveAnswer}
+use Rattle.register.specs.Effect.{effect}
+use Rattle.register.specs.Output.{WritesOrShort}
+use Rattle.register.specs.Calls.{SaveMeets}
+use Rattle.register.proofs.Ladder.{where-holds, accepted-passed}
 use Rattle.history.specs.Survivors.{Call, survivors}
 use Rattle.history.specs.Run.{SaveRun, by-save, History}
 use Rattle.history.specs.Claim.{fullImage, HoldsSurvivors, EveryTwoLists}
+use Rattle.history.proofs.CallSteps.{lent}
+use Rattle.history.proofs.FullSave.{full-save}
 use Rattle.history.proofs.Steps.{InStep}
 use Rattle.history.proofs.Runs.{history-keeps}
 
@@ -38,41 +44,44 @@ module _ (sizes : Sizes) (set words : List ℕ) (h : InStep sizes set words) whe
       ∙ ap₂ (λ (z : Sizes) (l : List ℕ). tree (panelOf z) (member l)) (h .sized) (h .holds .set-is)
 
   is-set : PixelSet (panelOf sizes) set
-  is-set = subst (PixelSet (panelOf sizes)) (ap pixels (sym held-tree) ∙ h .holds .set-is) (pixels-of-tree-are-set (panelOf sizes) (member set))
+  is-set = subst (PixelSet (panelOf sizes)) (ap pixels (sym held-tree) ∙ pixels-unlabelled (h .holds .placed) ∙ h .holds .set-is) (pixels-of-tree-are-set (panelOf sizes) (member set))
 
   -- what save meets, of these sizes
   image-is : image (panelOf (sizesOf words)) set ≡ image (panelOf sizes) set
   image-is = ap (λ (z : Sizes). image (panelOf z) set) (h .sized)
 
-  module _ (output : List ℕ) (r : Saving) (written : List ℕ) (m : SaveMeets words output written r) where
-    long-enough-accepted : length (image (panelOf (sizesOf words)) set) ≤ length output → saveAnswer r .refusal ≡ 0
-    long-enough-accepted l = ap (λ (a : Answer). a .refusal) (m .sound set (h .holds) l .0)
+  module _ (output : List ℕ) (r : Saving) (written : List ℕ) (m : SaveMeets words output written (saveAnswer r)) where
+    abbrev bytes : List ℕ
+    bytes = image (panelOf (sizesOf words)) set
 
-    accepted-writes : saveAnswer r .refusal ≡ 0 → fullImage r written ≡ image (panelOf (sizesOf words)) set
-    accepted-writes e = go (decLe (length (image (panelOf (sizesOf words)) set)) (length output))
-      where
-        bytes : List ℕ
-        bytes = image (panelOf (sizesOf words)) set
+    right : WritesOrShort (accepted (length bytes) 0) bytes (effect (saveAnswer r) output written)
+    right = where-holds m (h .holds .sound .usable) .sound set (h .holds)
 
-        go : Dec (length bytes ≤ length output) → fullImage r written ≡ bytes
-        go (yes l) =
-            let d = m .sound set (h .holds) l in
-            ap₂ (λ (n : ℕ) (w : List ℕ). take n w) (ap (λ (a : Answer). a .first) (d .0)) (d .1)
-            ∙ take-at bytes (drop (length bytes) output) (length bytes) refl
-        go (no l) =
-            let z = ap (λ (a : Answer). a .refusal) (m .sound-short set (h .holds) (omega (arith, l))) in
-            absurd (omega (arith, z, e))
+    long-enough-accepted : length bytes ≤ length output → saveAnswer r .refusal ≡ 0
+    long-enough-accepted l = ap (λ (a : Answer). a .refusal) (where-holds right l .is)
+
+    accepted-writes : saveAnswer r .refusal ≡ 0 → fullImage r written ≡ bytes
+    accepted-writes e =
+        let d = accepted-passed (omega arith) right e .1 in
+        ap₂ (λ (n : ℕ) (w : List ℕ). take n w) (ap (λ (a : Answer). a .first) (d .is)) (d .wrote)
+        ∙ take-at bytes (drop (length bytes) output) (length bytes) refl
 
   saved-accepted : (output : List ℕ) (r : Saving) (written : List ℕ) → SaveRun words output r written → length (image (panelOf sizes) set) ≤ length output
       → saveAnswer r .refusal ≡ 0
   saved-accepted output r written (by-save κs s o e f m) l =
-      long-enough-accepted output r written (subst₂ (λ (w b : List ℕ). SaveMeets w b written r) e f m)
+      long-enough-accepted output r written (subst₂ (λ (w b : List ℕ). SaveMeets w b written (saveAnswer r)) e f m)
       (subst (λ (b : List ℕ). length b ≤ length output) (sym image-is) l)
 
   saved-is : (output : List ℕ) (r : Saving) (written : List ℕ) → SaveRun words output r written → saveAnswer r .refusal ≡ 0
       → fullImage r written ≡ image (panelOf sizes) set
   saved-is output r written (by-save κs s o e f m) a =
-      accepted-writes output r written (subst₂ (λ (w b : List ℕ). SaveMeets w b written r) e f m) a ∙ image-is
+      accepted-writes output r written (subst₂ (λ (w b : List ℕ). SaveMeets w b written (saveAnswer r)) e f m) a ∙ image-is
+
+  save-there : (output : List ℕ) → length (image (panelOf sizes) set) ≤ length output
+      → SaveRun words output (Saved (length (image (panelOf sizes) set))) (image (panelOf sizes) set ++ drop (length (image (panelOf sizes) set)) output)
+  save-there output =
+      subst (λ (b : List ℕ). length b ≤ length output → SaveRun words output (Saved (length b)) (b ++ drop (length b) output)) image-is
+      (λ room. by-save ([], ([], tt)) (lent words) (lent output) refl refl (full-save (h .holds) output room))
 
   block-sizes-held : (level code : ℕ) (elements : Forest) → List·Memᴰ (blockOf level code elements) (blocks (tree (panelOf sizes) (member set)))
       → (size elements ≤ 4 * (sizes .k - 1)) × ((level ≡ sizes .order → ⊥) → sizes .k ≤ size elements)
@@ -91,6 +100,7 @@ holds-survivors sizes calls words history =
     let e = held-tree sizes set words h in
     record {
       placed = h .holds .placed;
+      sound = h .holds .sound;
       reads = h .holds .sound .reads;
       tree-is = e;
       blocks-are = λ level code elements. subst (λ (t : Forest). List·Memᴰ (blockOf level code elements) (blocks t)
@@ -100,6 +110,7 @@ holds-survivors sizes calls words history =
           (subst (λ (t : Forest). List·Memᴰ (blockOf level code elements) (blocks t)) e m);
       number-of-blocks = λ some. subst (λ (t : Forest). length (blocks t) ≤ 1 + (length set - 1) / (sizes .k - 1)) (sym e)
           (number.number-of-blocks (panelOf sizes) set (valid sizes set words h .panel) (is-set sizes set words h) some);
+      can-save = save-there sizes set words h;
       save-accepted = saved-accepted sizes set words h;
       saved = saved-is sizes set words h;
     }

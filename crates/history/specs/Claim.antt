@@ -3,8 +3,8 @@ use Prim.Native.Nat.{ℕ, _+_, _-_, _*_, _/_, _≤_}
 use mathlib.Core.Path.{_≡_}
 use mathlib.Core.Logic.{_↔_}
 use mathlib.Core.Option.{some}
-use mathlib.Core.List.{List, List·Memᴰ}
-use lib.ListN.{length, take}
+use mathlib.Core.List.{List, List·Memᴰ, _++_}
+use lib.ListN.{length, take, drop}
 use Rattle.pktree.specs.PixelSet.{member}
 use Rattle.pktree.specs.Elements.{Forest, size, gather}
 use Rattle.pktree.specs.Tree.{Instantiated, tree, blockOf, blocks}
@@ -13,7 +13,9 @@ use Rattle.measures.specs.declared.sizes.Sizes.{Sizes}
 use Rattle.measures.specs.Sizes.{panelOf}
 use Rattle.store.specs.Placed.{Placed, forestOf}
 use Rattle.store.specs.Reading.{treeOf}
+use Rattle.store.specs.Sound.{Sound}
 use Rattle.register.specs.declared.Saving.{Saving}
+use Rattle.register.specs.declared.Saving.the-variants.{Saved}
 use Rattle.register.specs.Answer.{saveAnswer}
 use Rattle.history.specs.Survivors.{Call, survivors}
 use Rattle.history.specs.Run.{SaveRun, History}
@@ -24,8 +26,9 @@ fullImage r written = take (saveAnswer r .first) written
 
 -- one register: it holds exactly the blocks of its survivors, and its full image is exactly theirs
 pub record HoldsSurvivors (sizes : Sizes) (calls : List Call) (words : List ℕ) : Type 0 where
-  -- the tree that the written definition reads is the tree of the survivors
+  -- the store is sound; the tree that the written definition reads is the tree of the survivors
   pub placed : Placed
+  pub sound : Sound words placed
   pub reads : treeOf words ≡ some placed
   pub tree-is : forestOf placed ≡ tree (panelOf sizes) (member (survivors sizes calls))
   -- a block is held exactly if it is instantiated, with the elements gathered from its quarters
@@ -37,7 +40,11 @@ pub record HoldsSurvivors (sizes : Sizes) (calls : List Call) (words : List ℕ)
       → (size elements ≤ 4 * (sizes .k - 1)) × ((level ≡ sizes .order → ⊥) → sizes .k ≤ size elements)
   -- n > 0 survivors have at most 1 + floor((n-1)/(k-1)) blocks
   pub number-of-blocks : 1 ≤ length (survivors sizes calls) → length (blocks (forestOf placed)) ≤ 1 + (length (survivors sizes calls) - 1) / (sizes .k - 1)
-  -- a save into an output that is long enough is accepted; one that is accepted writes exactly the image of the survivors
+  -- into an output that is long enough there is a save, of exactly the image of the survivors; the rest of the output is as it was
+  pub can-save : (output : List ℕ) → length (image (panelOf sizes) (survivors sizes calls)) ≤ length output
+      → SaveRun words output (Saved (length (image (panelOf sizes) (survivors sizes calls))))
+      (image (panelOf sizes) (survivors sizes calls) ++ drop (length (image (panelOf sizes) (survivors sizes calls))) output)
+  -- every save into such an output is accepted; one that is accepted writes exactly the image of the survivors
   pub save-accepted : (output : List ℕ) (r : Saving) (written : List ℕ) → SaveRun words output r written
       → length (image (panelOf sizes) (survivors sizes calls)) ≤ length output → saveAnswer r .refusal ≡ 0
   pub saved : (output : List ℕ) (r : Saving) (written : List ℕ) → SaveRun words output r written → saveAnswer r .refusal ≡ 0

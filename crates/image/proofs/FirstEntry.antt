@@ -3,7 +3,7 @@ use Prim.Native.Nat.{ℕ, suc, _+_, _^_, _≤_, _<_}
 use native.Mathlib.Omega.{arith}
 use mathlib.Core.Path.{_≡_, refl}
 use mathlib.Core.List.{List, [], _∷_, _++_}
-use Rattle.pktree.specs.Elements.{Forest, empty, pixel, block}
+use Rattle.pktree.specs.Elements.{Forest, empty, pixel, block, blockAt}
 use Rattle.pktree.specs.Entries.{Entry, entry, entries}
 use Rattle.pktree.proofs.Alignment.{pow-pos}
 use Rattle.pktree.proofs.Arranged.{Arranged, arranged-le}
@@ -18,7 +18,7 @@ from-lower low high (e ∷ rest) h f = omega arith
 pub from-arranged : (k n from to : ℕ) (f : Forest) (rest : List Entry) → Arranged k n from to f → From to rest → From from (entries f ++ rest)
 from-arranged k n from to empty rest h past = from-lower from to rest h past
 from-arranged k n from to (pixel c f) rest h past = h .0
-from-arranged k n from to (block i c es f) rest h past = h .0
+from-arranged k n from to (blockAt v i c es f) rest h past = h .0
 
 module _ (codes levels : List ℕ) (at : ℕ) where
   -- the first entry lies outside: there are no elements
@@ -28,7 +28,7 @@ module _ (codes levels : List ℕ) (at : ℕ) where
   nothing-inside k n from to (pixel c f) rest h e outside =
       let first = first-entry codes levels at (entry 0 c) (entries f ++ rest) e .is in
       absurd (outside (record { below = first .below; low = omega (arith, first .code-is, h .0); high = omega (arith, first .code-is, arranged-le k n (suc c) to f (h .1)) }))
-  nothing-inside k n from to (block i c es f) rest h e outside =
+  nothing-inside k n from to (blockAt v i c es f) rest h e outside =
       let first = first-entry codes levels at (entry i c) ((entries es ++ entries f) ++ rest) e .is in
       absurd (outside (record { below = first .below; low = omega (arith, first .code-is, h .0); high = omega (arith, first .code-is, pow-pos i, arranged-le k n (c + 4 ^ i) to f (h .7)) }))
 
@@ -43,5 +43,5 @@ module _ (codes levels : List ℕ) (at : ℕ) where
   not-of-elements k level code empty rest l is h e past = not-past level code (code + 4 ^ level) rest is e past (omega (arith, pow-pos level))
   not-of-elements k level code (pixel c f) rest l is h e past =
       omega (arith, first-entry codes levels at (entry 0 c) (entries f ++ rest) e .is .level-is, is .level-is)
-  not-of-elements k level code (block i c es f) rest l is h e past =
+  not-of-elements k level code (blockAt v i c es f) rest l is h e past =
       omega (arith, first-entry codes levels at (entry i c) ((entries es ++ entries f) ++ rest) e .is .level-is, is .level-is, h .1)

@@ -6,7 +6,7 @@ use mathlib.Core.Bool.{Bool, true}
 use mathlib.Core.List.{List, _++_, append-assoc}
 use lib.ListN.{length, length-append}
 use Rattle.pktree.specs.PixelSet.{member}
-use Rattle.pktree.specs.Elements.{Forest, empty, pixel, block, _⧺_, size, give, gather}
+use Rattle.pktree.specs.Elements.{Forest, empty, pixel, block, blockAt, _⧺_, size, give, gather}
 use Rattle.pktree.specs.Entries.{Entry, entry, entries}
 use Rattle.pktree.specs.Tree.{pixels}
 use Rattle.pktree.proofs.Forests.{size-join, give-case, give-itself}
@@ -63,7 +63,7 @@ first-given {codes} {levels} {k} {level} {to = to} {next = next} {i = i} {c = c}
       is = rw (pixel-given k d h);
     } in
     subst₂ (λ (j d′ : ℕ). FirstGiven k level to j d′ (pixel d f)) (omega (arith, first .level-is, is .level-is)) (omega (arith, first .code-is, is .code-is)) one
-first-given {codes} {levels} {k} {level} {to = to} {next = next} {i = i} {c = c} place (block j d es f) rest h row e past is inside =
+first-given {codes} {levels} {k} {level} {to = to} {next = next} {i = i} {c = c} place (blockAt u j d es f) rest h row e past is inside =
     let first = first-entry codes levels next (entry j d) ((entries es ++ entries f) ++ rest) e .is in
     let own : es ≡ gather (member (pixels es)) k j d = local-is-gather k j d es (row .4) (record { arranged = row .6; sparse = row .5 }) in
     let one : FirstGiven k level to j d (block j d es f) =

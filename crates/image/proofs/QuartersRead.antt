@@ -45,7 +45,7 @@ module _ {codes levels : List ℕ} {k level code at : ℕ} (h : 2 ≤ k) where
   no-quarter-read aligned to =
       record {
         read = empty;
-        row = record { arranged = omega arith; sparse = sparse-of-small k level empty (omega arith) };
+        row = record { arranged = omega arith; sparse = sparse-of-small {A = Unit {0}} k level empty (omega arith) };
         entries-are = refl;
         size-is = refl;
         aligned = aligned-down level code aligned;

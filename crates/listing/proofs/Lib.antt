@@ -1,3 +1,3 @@
 pub mod WrittenAt
-pub mod ListedTo
-pub mod ListedElement
+pub mod Lists
+pub mod ListEnds

@@ -1,5 +1,5 @@
 -- What the walk that writes the found codes leaves in the output.
-use Prim.Native.Nat.{ℕ, suc, _+_, _≤_, _<_}
+use Prim.Native.Nat.{ℕ, _+_, _≤_, _<_}
 use mathlib.Core.Path.{_≡_}
 use mathlib.Core.List.{List, _++_}
 use lib.ListN.{length, getD, take, drop}
@@ -11,15 +11,14 @@ use Rattle.pktree.specs.Window.{found, openedByWindow}
 use Rattle.measures.specs.Sizes.{panelOf, slotWidth, sizesOf}
 use Rattle.store.specs.Sound.{Holds}
 use Rattle.store.specs.Opening.{CannotOpen}
-use Rattle.store.specs.Placed.{Placed, forestOf}
-use Rattle.store.proofs.BlockView.{BlockView}
+use Rattle.walks.proofs.Walks.{InsideWalked}
 use Rattle.query.specs.declared.count.Look.{Look}
-use Rattle.query.specs.declared.count.Counted.{Counted}
+use Rattle.query.specs.declared.count.Sum.{Sum}
 use Rattle.listing.specs.declared.Listed.{Listed}
 use Rattle.listing.specs.declared.Listed.the-variants.{Written, Short, Broken}
 use Rattle.query.specs.declared.window.Corners.{Corners}
 use Rattle.query.specs.Corners.{windowBetween, Ordered}
-use Rattle.query.specs.Counting.{foundIn, BeginsOnPanel, WithinSizes, RoomFor, CountMeets, PixelCounted}
+use Rattle.query.specs.Counting.{foundIn, BeginsOnPanel, WithinSizes, Counts, PixelCounted}
 
 -- these codes written from index `at` on, the rest unchanged
 abbrev pub writtenAt : List ℕ → ℕ → List ℕ → List ℕ
@@ -29,12 +28,22 @@ writtenAt output at codes = take at output ++ (codes ++ drop (at + length codes)
 abbrev pub Wrote : tree.Window → Forest → ℕ → List ℕ → List ℕ → Type 0
 Wrote window f at before after = at + foundIn window f ≤ length before → after ≡ writtenAt before at (found window (pixels f))
 
--- the answer is count's, and what is found is written
-pub record ListMeets (look : Look) (words : List ℕ) (slot level code at opened : ℕ) (before after : List ℕ) (r : Counted) : Type 0 where
-  pub counts : CountMeets look words slot level code at opened r
+-- from the output and the numbers s, a window walk over these elements comes to t: the numbers are count's, and what is found is written
+pub record Lists (look : Look) (s : List ℕ × ℕ × ℕ) (f : Forest) (t : List ℕ × ℕ × ℕ) : Type 0 where
+  pub counts : Counts look (s .1, s .2) f (t .1, t .2)
+  pub wrote : Ordered (windowBetween (look .corners)) → s .1 + foundIn (windowBetween (look .corners)) f ≤ 65535
+      → s .2 + openedByWindow (windowBetween (look .corners)) f ≤ look .layout .slots → Wrote (windowBetween (look .corners)) f (s .1) (s .0) (t .0)
+
+pub record ListMeets (look : Look) (words : List ℕ) (above slot level code : ℕ) (before after : List ℕ) (at opened : ℕ) (r : Sum) : Type 0 where
+  pub inside : InsideWalked (Lists look) (look .layout) words above slot level code (before, at, opened + 1) (after, r .found, r .opened)
   pub long : length after ≡ length before
-  pub wrote : (k : ℕ) (es : Placed) → BlockView k (look .layout .width) (look .layout .slots) words slot level code es → Ordered (windowBetween (look .corners))
-      → RoomFor look at (suc opened) (forestOf es) → Wrote (windowBetween (look .corners)) (forestOf es) at before after
+  pub closed : CannotOpen (look .layout .width) words slot level code → look .layout .slots < r .opened
+
+-- the walk from the root into the first n words of the output: the rest is as it was
+pub record RootListed (look : Look) (words : List ℕ) (order n : ℕ) (before after : List ℕ) (r : Sum) : Type 0 where
+  pub part : List ℕ
+  pub meets : ListMeets look words 17 0 order 0 (take n before) part 0 0 r
+  pub is : after ≡ part ++ drop n before
 
 -- a pixel that the window has is added to those found, and written where there is room
 pub record PixelListed (corners : Corners) (code at : ℕ) (before after : List ℕ) (r : ℕ) : Type 0 where
@@ -60,5 +69,7 @@ pub record ListAnswer (words : List ℕ) (window : tree.Window) (before after : 
   pub sound : (set : List ℕ) → Holds words set → Ordered window → BeginsOnPanel (panelOf (sizesOf words)) window
       → ListCase words window before after (setTree (panelOf (sizesOf words)) (member set)) set r
   pub short : (n : ℕ) → r ≡ Short n → (after ≡ before) × (length before < n)
+  -- no word past those found is written
+  pub rest : (n opened : ℕ) → r ≡ Written n opened → drop n after ≡ drop n before
   pub long : length after ≡ length before
   pub closed : CannotOpen (slotWidth (getD words 2 0)) words 0 (getD words 1 0) 0 → r ≡ Broken

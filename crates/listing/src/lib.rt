@@ -1,31 +1,33 @@
 // Listing: the walk of count, which also writes the codes that it finds.
-ghost use Prim.Native.Nat.{_+_, _<_};
+ghost use Prim.Native.Nat.{_≤_};
 ghost use mathlib.Core.Path.{_≡_};
-ghost use Rattle.query.specs.Counting.{CanCount};
-ghost use Rattle.listing.specs.Listing.{PixelListed, ListMeets, ListAnswer};
+ghost use lib.ListN.{length};
+ghost use Rattle.listing.specs.Listing.{PixelListed, ListMeets, RootListed, ListAnswer};
 ghost use Rattle.query.specs.Corners.{windowOf, HasCodes};
+ghost use Rattle.measures.specs.Layout.{LayoutFits};
 ghost use Rattle.measures.specs.Sizes.{UsableStore, sizesOf};
 use measures::sizes::Sizes;
 use measures::sizes::layout_of;
-use measures::slots::slot_part;
 use measures::slots::wide;
 use query::count::Counted;
 use query::count::Look;
-use query::count::at_most;
+use query::count::Sum;
 use query::count::count;
-use query::opened::open_slot;
+use query::count::within;
 use query::window::Corners;
 use query::window::Window;
 use query::window::corners_of;
 use query::window::has_pixel;
 use query::window::meets;
+use std::num::wrapping_add_u32;
 use store::elements::Element;
 use store::elements::element_at;
 use store::opening::Opening;
+use walks::enter;
+use walks::part_of;
 
 // A pixel that the window has is written at the index of its turn; the output has room for it unless words are damaged.
 fn list_pixel(corners: Corners, code: u32, output: &mut [u32], found: u32) -> u32
-    requires { ⌜ found < 4294967295 ⌝ }
     ensures { λ r. ⌜ PixelListed corners code found (now (output .entry)) (now (output .exit)) r ⌝ }
 {
     if !has_pixel(corners, code) {
@@ -33,51 +35,70 @@ fn list_pixel(corners: Corners, code: u32, output: &mut [u32], found: u32) -> u3
     }
     let at = wide(found);
     if output.len() <= at {
-        return found + 1;
+        return wrapping_add_u32(found, 1);
     }
     output[at] = code;
-    found + 1
+    wrapping_add_u32(found, 1)
 }
 
-// As count_block, and each found code is written once, in rising order; `above` is the level of the block itself.
+// As count_block, and each found code is written once, in rising order.
 fn list_block(
     store: &[u32],
     look: Look,
-    slot: u32,
     above: u32,
+    slot: u32,
+    level: u32,
     code: u32,
     output: &mut [u32],
     found: u32,
     opened: u32,
-) -> Counted
-    requires { ⌜ CanCount look (now store) above found opened ⌝ }
-    ensures { λ r. ⌜ ListMeets look (now (store .entry)) slot above code found opened (now (output .entry)) (now (output .exit)) r ⌝ }
+) -> Sum
+    requires { ⌜ LayoutFits (look .layout) (now store) ⌝ }
+    ensures { λ r. ⌜ ListMeets look (now (store .entry)) above slot level code (now (output .entry)) (now (output .exit)) found opened r ⌝ }
 {
-    let Opening::Elements(count) = open_slot(store, look.layout, slot, above, code, opened) else {
-        return Counted::Damaged;
+    if look.layout.slots <= wide(opened) {
+        return Sum {
+            found: 0,
+            opened: 65536,
+        };
+    }
+    let Opening::Elements(count) = enter(store, look.layout, above, slot, level, code) else {
+        return Sum {
+            found: 0,
+            opened: 65536,
+        };
     };
-    let part = slot_part(store, look.layout, wide(slot));
+    let part = part_of(store, look.layout, slot);
     let mut pixels = found;
     let mut blocks = opened + 1;
     for i in 0..count {
         match element_at(part, i) {
-            Element::Pixel(code) => pixels = list_pixel(look.corners, code, output, pixels),
-            Element::Block { slot, level, code } => {
-                if above <= level {
-                    return Counted::Damaged;
-                }
-                if meets(look.corners, level, code) {
-                    let seen = list_block(store, look, slot, level, code, output, pixels, blocks);
-                    let Counted::Seen { found, opened } = seen else {
-                        return Counted::Damaged;
-                    };
-                    pixels = found;
-                    blocks = opened;
+            Element::Pixel(c) => pixels = list_pixel(look.corners, c, output, pixels),
+            Element::Block {
+                slot: s,
+                level: inner,
+                code: c,
+            } => {
+                if meets(look.corners, inner, c) {
+                    let sum = list_block(store, look, level, s, inner, c, output, pixels, blocks);
+                    pixels = sum.found;
+                    blocks = sum.opened;
                 }
             }
         }
     }
-    at_most(look.most, pixels, blocks)
+    Sum {
+        found: pixels,
+        opened: blocks,
+    }
+}
+
+// The walk from the root into the first n words; those past them are not lent.
+fn list_root(store: &[u32], look: Look, order: u32, output: &mut [u32], n: usize) -> Sum
+    requires { ⌜ LayoutFits (look .layout) (now store) × (n ≤ length (now output)) ⌝ }
+    ensures { λ r. ⌜ RootListed look (now (store .entry)) order n (now (output .entry)) (now (output .exit)) r ⌝ }
+{
+    list_block(store, look, 17, 0, order, 0, &mut output[..n], 0, 0)
 }
 
 pub enum Listed {
@@ -94,24 +115,17 @@ pub fn list(store: &[u32], sizes: Sizes, window: Window, output: &mut [u32]) -> 
     let Counted::Seen { found, opened: _ } = count(store, sizes, window) else {
         return Listed::Broken;
     };
-    if output.len() < wide(found) {
+    let n = wide(found);
+    if output.len() < n {
         return Listed::Short(found);
     }
+    let layout = layout_of(sizes);
     let look = Look {
-        layout: layout_of(sizes),
-        most: sizes.most,
+        layout,
         corners: corners_of(window),
     };
-    let Counted::Seen { found: _, opened } = list_block(
-        store,
-        look,
-        0,
-        sizes.order,
-        0,
-        output,
-        0,
-        0,
-    ) else {
+    let sum = list_root(store, look, sizes.order, output, n);
+    let Counted::Seen { found: _, opened } = within(sizes.most, layout, sum) else {
         return Listed::Broken;
     };
     Listed::Written { found, opened }

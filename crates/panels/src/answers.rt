@@ -4,6 +4,7 @@ ghost use Rattle.register.specs.Answer.{answer, askAnswer, countAnswer};
 use register::Asking;
 use register::Counting;
 use register::Outcome;
+use register::number_of;
 use register::refusal_of;
 
 pub fn print_outcome(outcome: Outcome) -> u32
@@ -29,9 +30,10 @@ pub fn print_asking(asking: Asking) -> u32
             0
         }
         Asking::Refused(refusal) => {
+            let number = number_of(refusal);
             io::write_all(1, b" refused ");
-            io::print_decimal(1, refusal as u64);
-            refusal
+            io::print_decimal(1, number as u64);
+            number
         }
     }
 }
@@ -48,9 +50,10 @@ pub fn print_counting(counting: Counting) -> u32
             0
         }
         Counting::Refused(refusal) => {
+            let number = number_of(refusal);
             io::write_all(1, b" refused ");
-            io::print_decimal(1, refusal as u64);
-            refusal
+            io::print_decimal(1, number as u64);
+            number
         }
     }
 }

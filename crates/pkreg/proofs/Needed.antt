@@ -3,7 +3,7 @@ use Prim.Native.Nat.{ℕ}
 use native.Mathlib.Omega.{arith}
 use mathlib.Core.Path.{_≡_, refl}
 use Rattle.measures.specs.Sizes.{ValidSizes, storeWords}
-use Rattle.register.specs.Make.{asked}
+use Rattle.register.specs.Calls.{asked}
 use Rattle.pkreg.specs.Words.{WordsNeeded}
 
 -- sizes that are within the limits are so with the order 1

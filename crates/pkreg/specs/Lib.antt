@@ -1,2 +1,2 @@
-pub mod Gives
+pub mod Numbers
 pub mod Words

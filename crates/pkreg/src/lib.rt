@@ -1,28 +1,22 @@
 // The register for C, and for what calls C: numbers and slices only, each call register's own. None has a requires; each has one
-// ensures, register's record through its answer definition.
+// ensures, register's own, of the numbers handed over.
 ghost use mathlib.Core.Path.{_≡_};
-ghost use Rattle.register.specs.Answer.{yesNo, answer, askAnswer, countAnswer, listAnswer, saveAnswer, checkAnswer};
+ghost use Rattle.register.specs.Answer.{numberOf, yesNo};
 ghost use Rattle.register.specs.Answer as answers;
-ghost use Rattle.register.specs.Make.{MakeMeets};
-ghost use Rattle.register.specs.Mark.{MarkMeets};
-ghost use Rattle.register.specs.Clear.{ClearMeets};
-ghost use Rattle.register.specs.Load.{LoadMeets};
-ghost use Rattle.register.specs.Ask.{AskMeets};
-ghost use Rattle.register.specs.Count.{CountMeets};
-ghost use Rattle.register.specs.List.{ListMeets};
-ghost use Rattle.register.specs.Save.{SaveMeets};
-ghost use Rattle.register.specs.Check.{CheckMeets};
-ghost use Rattle.pkreg.specs.Gives.{Gives, alone, numbers};
+ghost use Rattle.register.specs.Calls.{MakeMeets, MarkMeets, ClearMeets, LoadMeets, AskMeets, CountMeets, ListMeets, SaveMeets, CheckMeets};
+ghost use Rattle.pkreg.specs.Numbers.{alone, numbers};
 ghost use Rattle.pkreg.specs.Words.{WordsNeeded};
 use measures::sizes::Sizes;
 use measures::sizes::layout_of;
 use measures::sizes::store_end;
 use measures::sizes::within_limits;
+use refusals::Refusal;
 use register::Asking;
 use register::Checking;
 use register::Counting;
 use register::Listing;
 use register::Saving;
+use register::number_of;
 use register::refusal_of;
 
 // 01's number and values: refusal 0 is an accepted call.
@@ -43,11 +37,11 @@ fn accepted(first: u32, second: u32) -> PkAnswer
     }
 }
 
-fn refused(refusal: u32) -> PkAnswer
-    ensures { λ r. ⌜ numbers r ≡ answers.refused refusal ⌝ }
+fn refused(refusal: Refusal) -> PkAnswer
+    ensures { λ r. ⌜ numbers r ≡ answers.refused (numberOf refusal) ⌝ }
 {
     PkAnswer {
-        refusal,
+        refusal: number_of(refusal),
         first: 0,
         second: 0,
     }
@@ -87,28 +81,28 @@ pub extern "C" fn pk_words(k: u32, n: u32) -> u64
 
 #[no_mangle]
 pub extern "C" fn pk_make(store: &mut [u32], m: u32, k: u32, n: u32) -> u32
-    ensures { λ r. ⌜ Gives (MakeMeets (now (store .entry)) (now (store .exit)) m k n) answer (alone r) ⌝ }
+    ensures { λ r. ⌜ MakeMeets (now (store .entry)) (now (store .exit)) m k n (alone r) ⌝ }
 {
     refusal_of(register::make(store, m, k, n))
 }
 
 #[no_mangle]
 pub extern "C" fn pk_mark(store: &mut [u32], x: u32, y: u32) -> u32
-    ensures { λ r. ⌜ Gives (MarkMeets (now (store .entry)) (now (store .exit)) x y) answer (alone r) ⌝ }
+    ensures { λ r. ⌜ MarkMeets (now (store .entry)) (now (store .exit)) x y (alone r) ⌝ }
 {
     refusal_of(register::mark(store, x, y))
 }
 
 #[no_mangle]
 pub extern "C" fn pk_clear(store: &mut [u32], x: u32, y: u32) -> u32
-    ensures { λ r. ⌜ Gives (ClearMeets (now (store .entry)) (now (store .exit)) x y) answer (alone r) ⌝ }
+    ensures { λ r. ⌜ ClearMeets (now (store .entry)) (now (store .exit)) x y (alone r) ⌝ }
 {
     refusal_of(register::clear(store, x, y))
 }
 
 #[no_mangle]
 pub extern "C" fn pk_load(store: &mut [u32], image: &[u8]) -> u32
-    ensures { λ r. ⌜ Gives (LoadMeets (now (store .entry)) (now (store .exit)) (now (image .entry))) answer (alone r) ⌝ }
+    ensures { λ r. ⌜ LoadMeets (now (store .entry)) (now (store .exit)) (now (image .entry)) (alone r) ⌝ }
 {
     refusal_of(register::load(store, image))
 }
@@ -116,22 +110,22 @@ pub extern "C" fn pk_load(store: &mut [u32], image: &[u8]) -> u32
 // first is 1 for a marked pixel, second the blocks opened.
 #[no_mangle]
 pub extern "C" fn pk_ask(store: &[u32], x: u32, y: u32) -> PkAnswer
-    ensures { λ r. ⌜ Gives (AskMeets (now (store .entry)) x y) askAnswer (numbers r) ⌝ }
+    ensures { λ r. ⌜ AskMeets (now (store .entry)) x y (numbers r) ⌝ }
 {
     match register::ask(store, x, y) {
         Asking::Answered { marked, opened } => accepted(yes_no(marked), opened as u32),
-        Asking::Refused(number) => refused(number),
+        Asking::Refused(refusal) => refused(refusal),
     }
 }
 
 // first is the pixels found, second the blocks opened.
 #[no_mangle]
 pub extern "C" fn pk_count(store: &[u32], x0: u32, y0: u32, x1: u32, y1: u32) -> PkAnswer
-    ensures { λ r. ⌜ Gives (CountMeets (now (store .entry)) x0 y0 x1 y1) countAnswer (numbers r) ⌝ }
+    ensures { λ r. ⌜ CountMeets (now (store .entry)) x0 y0 x1 y1 (numbers r) ⌝ }
 {
     match register::count(store, x0, y0, x1, y1) {
         Counting::Found { found, opened } => accepted(found, opened),
-        Counting::Refused(number) => refused(number),
+        Counting::Refused(refusal) => refused(refusal),
     }
 }
 
@@ -145,35 +139,35 @@ pub extern "C" fn pk_list(
     y1: u32,
     output: &mut [u32],
 ) -> PkAnswer
-    ensures { λ r. ⌜ Gives (ListMeets (now (store .entry)) x0 y0 x1 y1 (now (output .entry)) (now (output .exit))) listAnswer (numbers r) ⌝ }
+    ensures { λ r. ⌜ ListMeets (now (store .entry)) x0 y0 x1 y1 (now (output .entry)) (now (output .exit)) (numbers r) ⌝ }
 {
     match register::list(store, x0, y0, x1, y1, output) {
         Listing::Found { found, opened } => accepted(found, opened),
         Listing::Short(needed) => short(needed),
-        Listing::Refused(number) => refused(number),
+        Listing::Refused(refusal) => refused(refusal),
     }
 }
 
 // first is the image's length; with 9, the bytes needed.
 #[no_mangle]
 pub extern "C" fn pk_save(store: &[u32], output: &mut [u8]) -> PkAnswer
-    ensures { λ r. ⌜ Gives (SaveMeets (now (store .entry)) (now (output .entry)) (now (output .exit))) saveAnswer (numbers r) ⌝ }
+    ensures { λ r. ⌜ SaveMeets (now (store .entry)) (now (output .entry)) (now (output .exit)) (numbers r) ⌝ }
 {
     match register::save(store, output) {
         Saving::Saved(length) => accepted(length as u32, 0),
         Saving::Short(needed) => short(needed as u32),
-        Saving::Refused(number) => refused(number),
+        Saving::Refused(refusal) => refused(refusal),
     }
 }
 
 // first is 1 for a sound store, 0 for another.
 #[no_mangle]
 pub extern "C" fn pk_check(store: &[u32]) -> PkAnswer
-    ensures { λ r. ⌜ Gives (CheckMeets (now (store .entry))) checkAnswer (numbers r) ⌝ }
+    ensures { λ r. ⌜ CheckMeets (now (store .entry)) (numbers r) ⌝ }
 {
     match register::check(store) {
         Checking::Sound => accepted(1, 0),
         Checking::Unsound => accepted(0, 0),
-        Checking::Refused(number) => refused(number),
+        Checking::Refused(refusal) => refused(refusal),
     }
 }

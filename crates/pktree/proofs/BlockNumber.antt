@@ -7,7 +7,7 @@ use mathlib.Core.List.{List, append-nil}
 use lib.ListN.{length, length-append}
 use Rattle.pktree.specs.Panel.{Panel, Valid}
 use Rattle.pktree.specs.PixelSet.{member, PixelSet}
-use Rattle.pktree.specs.Elements.{Forest, empty, pixel, block, size, gather}
+use Rattle.pktree.specs.Elements.{ForestOf, Forest, empty, pixel, block, blockAt, size, gather}
 use Rattle.pktree.specs.Tree.{tree, blocks, pixels}
 use Rattle.pktree.proofs.Forests.{blockCount, length-blocks}
 use Rattle.pktree.proofs.Alignment.{aligned-root}
@@ -16,16 +16,16 @@ use Rattle.pktree.proofs.LocalLaw.{gather-is-local}
 use Rattle.pktree.proofs.Pixels.{pixels-of-set}
 
 -- the sum over the blocks of (elements - 1) is the number of pixels less the elements left
-pub blocks-take-pixels : (K n from to : ℕ) (f : Forest) → Arranged (suc K) n from to f → K * blockCount f + size f ≤ length (pixels f)
+pub blocks-take-pixels : {A : Type 0} (K n from to : ℕ) (f : ForestOf A) → Arranged (suc K) n from to f → K * blockCount f + size f ≤ length (pixels f)
 blocks-take-pixels K n from to empty h = omega arith
 blocks-take-pixels K n from to (pixel c f) h = omega (arith, blocks-take-pixels K n (suc c) to f (h .1))
-blocks-take-pixels K n from to (block i c es f) h =
+blocks-take-pixels K n from to (blockAt u i c es f) h =
     omega (arith, blocks-take-pixels K i c (c + 4 ^ i) es (h .6), blocks-take-pixels K n (c + 4 ^ i) to f (h .7), length-append (pixels es) (pixels f), h .3)
 
 some-element : (f : Forest) → 1 ≤ length (pixels f) → 1 ≤ size f
 some-element empty n = n
 some-element (pixel c f) n = omega arith
-some-element (block i c es f) n = omega arith
+some-element (blockAt u i c es f) n = omega arith
 
 -- blocks of a root with elements that are right
 pub blocks-of-local : (k m : ℕ) (es : Forest) → 2 ≤ k → LocallyRight k m 0 es → 1 ≤ length (pixels es)

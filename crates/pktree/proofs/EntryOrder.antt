@@ -9,7 +9,7 @@ use lib.ListN.{length, length-append}
 use borrow.Author.Tests.{ne-eqb}
 use Rattle.pktree.specs.Lists.{Every}
 use Rattle.pktree.specs.Panel.{Panel, Valid}
-use Rattle.pktree.specs.Elements.{Forest, empty, pixel, block, _⧺_, gather}
+use Rattle.pktree.specs.Elements.{Forest, empty, pixel, block, blockAt, _⧺_, gather}
 use Rattle.pktree.specs.Tree.{tree, blocks, pixels}
 use Rattle.pktree.specs.Entries.{Entry, entries, pixelEntries}
 use Rattle.pktree.proofs.Alignment.{pow-pos, aligned-root}
@@ -29,7 +29,7 @@ in-order k n from to (pixel c f) j d rest g p q t r = (
   (λ h. t (omega arith) .1),
   in-order k n (suc c) to f 0 c rest (g .1) (omega arith) (arranged-le k n (suc c) to f (g .1)) (λ h. absurd (omega arith)) r,
 )
-in-order k n from to (block i c es f) j d rest g p q t r = (
+in-order k n from to (blockAt u i c es f) j d rest g p q t r = (
   omega arith,
   (λ h. let u = t (omega arith) in omega arith),
   rw (append-assoc (entries es) (entries f) rest)
@@ -57,7 +57,7 @@ kept-join false c l r = refl
 pub entries-join : (f g : Forest) → entries (f ⧺ g) ≡ entries f ++ entries g
 entries-join empty g = refl
 entries-join (pixel c f) g = rw (entries-join f g)
-entries-join (block i c es f) g = rw (entries-join f g, append-assoc (entries es) (entries f) (entries g))
+entries-join (blockAt u i c es f) g = rw (entries-join f g, append-assoc (entries es) (entries f) (entries g))
 
 pub pixel-entries-join : (a b : List Entry) → pixelEntries (a ++ b) ≡ pixelEntries a ++ pixelEntries b
 pixel-entries-join [] b = refl
@@ -68,7 +68,7 @@ pixel-entries-join (e ∷ a) b =
 pixel-entries-arranged : (k n from to : ℕ) (f : Forest) → Arranged k n from to f → pixelEntries (entries f) ≡ pixels f
 pixel-entries-arranged k n from to empty g = refl
 pixel-entries-arranged k n from to (pixel c f) g = ap (λ (l : List ℕ). c ∷ l) (pixel-entries-arranged k n (suc c) to f (g .1))
-pixel-entries-arranged k n from to (block i c es f) g =
+pixel-entries-arranged k n from to (blockAt u i c es f) g =
     rw (ne-eqb i 0 (omega arith))
     (pixel-entries-join (entries es) (entries f)
     ∙ ap₂ _++_ (pixel-entries-arranged k i c (c + 4 ^ i) es (g .6)) (pixel-entries-arranged k n (c + 4 ^ i) to f (g .7)))
@@ -84,7 +84,7 @@ pixel-entries-of-tree panel M valid =
 pub number-of-entries : (f : Forest) → length (entries f) ≡ length (pixels f) + length (blocks f)
 number-of-entries empty = refl
 number-of-entries (pixel c f) = omega (arith, number-of-entries f)
-number-of-entries (block i c es f) =
+number-of-entries (blockAt u i c es f) =
     omega (
       arith,
       number-of-entries es,
@@ -109,7 +109,7 @@ within-lift to to′ top top′ (e ∷ l) h g p = ((omega arith, omega arith), w
 entries-arranged-within : (k n from to : ℕ) (f : Forest) → Arranged k n from to f → Every (EntryWithin to n) (entries f)
 entries-arranged-within k n from to empty g = tt
 entries-arranged-within k n from to (pixel c f) g = ((arranged-le k n (suc c) to f (g .1), omega arith), entries-arranged-within k n (suc c) to f (g .1))
-entries-arranged-within k n from to (block i c es f) g =
+entries-arranged-within k n from to (blockAt u i c es f) g =
     let e : c + 4 ^ i ≤ to = arranged-le k n (c + 4 ^ i) to f (g .7) in (
       (omega (arith, pow-pos i), omega arith),
       every-join (EntryWithin to n) (entries es) (entries f)

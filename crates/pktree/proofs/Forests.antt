@@ -7,49 +7,49 @@ use mathlib.Core.List.{_++_, append-assoc}
 use lib.Dec.{T, ltb, ltb→lt, nltb→le}
 use lib.ListN.{length, length-append}
 use borrow.Author.Tests.{lt-ltb, le-ltb}
-use Rattle.pktree.specs.Elements.{Forest, empty, pixel, block, _⧺_, size, give, gather}
+use Rattle.pktree.specs.Elements.{ForestOf, Forest, empty, pixel, block, blockAt, _⧺_, size, give, gather}
 use Rattle.pktree.specs.Tree.{blocks, pixels}
 
-pub size-join : (f g : Forest) → size (f ⧺ g) ≡ size f + size g
+pub size-join : {A : Type 0} (f g : ForestOf A) → size (f ⧺ g) ≡ size f + size g
 size-join empty g = omega arith
 size-join (pixel c f) g = omega (arith, size-join f g)
-size-join (block i c es f) g = omega (arith, size-join f g)
+size-join (blockAt u i c es f) g = omega (arith, size-join f g)
 
 -- the number of blocks, by recursion
-abbrev pub blockCount : Forest → ℕ
+abbrev pub blockCount : {A : Type 0} → ForestOf A → ℕ
 blockCount empty = 0
 blockCount (pixel c f) = blockCount f
-blockCount (block i c es f) = suc (blockCount es + blockCount f)
+blockCount (blockAt u i c es f) = suc (blockCount es + blockCount f)
 
 pub length-blocks : (f : Forest) → length (blocks f) ≡ blockCount f
 length-blocks empty = refl
 length-blocks (pixel c f) = length-blocks f
-length-blocks (block i c es f) = omega (arith, length-append (blocks es) (blocks f), length-blocks es, length-blocks f)
+length-blocks (blockAt u i c es f) = omega (arith, length-append (blocks es) (blocks f), length-blocks es, length-blocks f)
 
-pub blockCount-join : (f g : Forest) → blockCount (f ⧺ g) ≡ blockCount f + blockCount g
+pub blockCount-join : {A : Type 0} (f g : ForestOf A) → blockCount (f ⧺ g) ≡ blockCount f + blockCount g
 blockCount-join empty g = omega arith
 blockCount-join (pixel c f) g = blockCount-join f g
-blockCount-join (block i c es f) g = omega (arith, blockCount-join f g)
+blockCount-join (blockAt u i c es f) g = omega (arith, blockCount-join f g)
 
-pub pixels-join : (f g : Forest) → pixels (f ⧺ g) ≡ pixels f ++ pixels g
+pub pixels-join : {A : Type 0} (f g : ForestOf A) → pixels (f ⧺ g) ≡ pixels f ++ pixels g
 pixels-join empty g = refl
 pixels-join (pixel c f) g = rw (pixels-join f g)
-pixels-join (block i c es f) g = rw (pixels-join f g) (sym (append-assoc (pixels es) (pixels f) (pixels g)))
+pixels-join (blockAt u i c es f) g = rw (pixels-join f g) (sym (append-assoc (pixels es) (pixels f) (pixels g)))
 
 pub blocks-join : (f g : Forest) → blocks (f ⧺ g) ≡ blocks f ++ blocks g
 blocks-join empty g = refl
 blocks-join (pixel c f) g = blocks-join f g
-blocks-join (block i c es f) g = rw (blocks-join f g, append-assoc (blocks es) (blocks f) (blocks g))
+blocks-join (blockAt u i c es f) g = rw (blocks-join f g, append-assoc (blocks es) (blocks f) (blocks g))
 
-pub join-assoc : (f g h : Forest) → (f ⧺ g) ⧺ h ≡ f ⧺ (g ⧺ h)
+pub join-assoc : {A : Type 0} (f g h : ForestOf A) → (f ⧺ g) ⧺ h ≡ f ⧺ (g ⧺ h)
 join-assoc empty g h = refl
 join-assoc (pixel c f) g h = ap (pixel c) (join-assoc f g h)
-join-assoc (block i c es f) g h = ap (block i c es) (join-assoc f g h)
+join-assoc (blockAt u i c es f) g h = ap (blockAt u i c es) (join-assoc f g h)
 
-pub join-empty : (f : Forest) → f ⧺ empty ≡ f
+pub join-empty : {A : Type 0} (f : ForestOf A) → f ⧺ empty ≡ f
 join-empty empty = refl
 join-empty (pixel c f) = ap (pixel c) (join-empty f)
-join-empty (block i c es f) = ap (block i c es) (join-empty f)
+join-empty (blockAt u i c es f) = ap (blockAt u i c es) (join-empty f)
 
 -- by cases on a test
 pub cond-case : (P : Forest → Type 0) (b : Bool) (f g : Forest) → (T b → P f) → (T (not b) → P g) → P (cond b f g)

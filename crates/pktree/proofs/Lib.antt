@@ -5,6 +5,7 @@ pub mod Alignment
 pub mod Counting
 pub mod Arranged
 pub mod LocalLaw
+pub mod Unlabelled
 pub mod Sizes
 pub mod Pixels
 pub mod SetChanges

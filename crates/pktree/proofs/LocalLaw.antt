@@ -10,7 +10,7 @@ use mathlib.Core.List.{List, append-nil}
 use borrow.Author.Tests.{eq-eqb}
 use Rattle.pktree.specs.Panel.{Panel, Aligned}
 use Rattle.pktree.specs.PixelSet.{member}
-use Rattle.pktree.specs.Elements.{Forest, empty, pixel, block, _⧺_, size, give, gather}
+use Rattle.pktree.specs.Elements.{Forest, empty, pixel, block, blockAt, _⧺_, size, give, gather}
 use Rattle.pktree.specs.Tree.{tree, pixels}
 use Rattle.pktree.proofs.Forests.{give-case, cond-case, give-itself, give-elements}
 use Rattle.pktree.proofs.Alignment.{pow-pos, aligned-root, aligned-plus, aligned-next, aligned-down, blocks-nest}
@@ -44,7 +44,7 @@ cut k n l from d to (pixel c f) u a p q h = go (decLt c d) (λ t. cut k n l (suc
         let s = r t in
         record { left = pixel c (s .left); right = s .right; eq = ap (pixel c) (s .eq); low = (h .0, s .low); high = s .high }
     go (no t) r = record { left = empty; right = pixel c f; eq = refl; low = p; high = (omega arith, h .1) }
-cut k n l from d to (block i c es f) u a p q h =
+cut k n l from d to (blockAt w i c es f) u a p q h =
     go (decLt c d) (λ t. cut k n l (c + 4 ^ i) d to f u a (blocks-nest i l c d (omega arith) (h .4) a t) q (h .7))
   where
     go : Dec (c < d) → (c < d → Cut k n (c + 4 ^ i) d to f) → Cut k n from d to (block i c es f)
@@ -86,7 +86,7 @@ cut-part M k l from d to f a p q h =
 pub none-left : (k n a : ℕ) (f : Forest) → Arranged k n a a f → f ≡ empty
 none-left k n a empty h = refl
 none-left k n a (pixel c f) h = absurd (omega (arith, arranged-le k n (suc c) a f (h .1)))
-none-left k n a (block i c es f) h = absurd (omega (arith, pow-pos i, arranged-le k n (c + 4 ^ i) a f (h .7)))
+none-left k n a (blockAt u i c es f) h = absurd (omega (arith, pow-pos i, arranged-le k n (c + 4 ^ i) a f (h .7)))
 
 -- a quarter that is one block of its own size
 pub record Whole (k l d : ℕ) (f : Forest) : Type 0 where
@@ -103,7 +103,7 @@ lower-or-whole k l d from (pixel c f) p h = go (lower-or-whole k l d (suc c) f (
     go : Arranged k l (suc c) (d + 4 ^ l) f ⊎ ((suc c ≡ d) × Whole k l d f) → Arranged k l from (d + 4 ^ l) (pixel c f) ⊎ ((from ≡ d) × Whole k l d (pixel c f))
     go (inl w) = inl (h .0, w)
     go (inr w) = absurd (omega arith)
-lower-or-whole k l d from (block i c es f) p h = go (eq-or-lt-of-le (h .1)) (lower-or-whole k l d (c + 4 ^ i) f (omega arith) (h .7))
+lower-or-whole k l d from (blockAt u i c es f) p h = go (eq-or-lt-of-le (h .1)) (lower-or-whole k l d (c + 4 ^ i) f (omega arith) (h .7))
   where
     go : (suc i ≡ suc l) ⊎ (suc i < suc l) → Arranged k l (c + 4 ^ i) (d + 4 ^ l) f ⊎ ((c + 4 ^ i ≡ d) × Whole k l d f)
         → Arranged k l from (d + 4 ^ l) (block i c es f) ⊎ ((from ≡ d) × Whole k l d (block i c es f))
@@ -156,7 +156,7 @@ leaf-local-determined M k c (pixel d f) h o =
     let e : d ≡ c = omega (arith, arranged-le k 0 (suc d) (c + 4 ^ 0) f (h .1)) in
     let z : f ≡ empty = none-left k 0 (c + 4 ^ 0) f (subst (λ (a : ℕ). Arranged k 0 a (c + 4 ^ 0) f) (omega arith) (h .1)) in
     rw (o c (omega arith) (omega arith), eq-eqb d c e) (ap₂ pixel e z)
-leaf-local-determined M k c (block i d fs f) h o = absurd (omega arith)
+leaf-local-determined M k c (blockAt u i d fs f) h o = absurd (omega arith)
 
 four : {f a0 r1 a1 r2 a2 a3 b0 b1 b2 b3 : Forest} → f ≡ a0 ⧺ r1 → r1 ≡ a1 ⧺ r2 → r2 ≡ a2 ⧺ a3 → a0 ≡ b0 → a1 ≡ b1 → a2 ≡ b2 → a3 ≡ b3
     → f ≡ b0 ⧺ (b1 ⧺ (b2 ⧺ b3))

@@ -10,17 +10,17 @@ use mathlib.Core.List.{List, [], _∷_}
 use lib.Dec.{ltb, leb, eqb}
 use borrow.Author.Tests.{lt-ltb, le-leb, eq-eqb, ltb-true, leb-true, eqb-true, eqb-false}
 use Rattle.pktree.specs.Panel.{Aligned}
-use Rattle.pktree.specs.Elements.{Forest, empty, pixel, block, size}
+use Rattle.pktree.specs.Elements.{ForestOf, empty, pixel, blockAt, size}
 use Rattle.pktree.specs.Entries.{Entry, entry}
 use Rattle.pktree.proofs.Counting.{indicator, countIn}
 use Rattle.pktree.proofs.Arranged.{Arranged, LocallyRight, countIn-after}
 use Rattle.pktree.proofs.Absurd.{zero-is-not-one}
 
 -- level and code of each element, a pixel's level being 0: what one slot shows
-abbrev pub heads : Forest → List Entry
+abbrev pub heads : {A : Type 0} → ForestOf A → List Entry
 heads empty = []
 heads (pixel c f) = entry 0 c ∷ heads f
-heads (block i c es f) = entry i c ∷ heads f
+heads (blockAt u i c es f) = entry i c ∷ heads f
 
 -- how many were met in this quarter: one more, or the first of another
 abbrev pub tally : Bool → ℕ → ℕ
@@ -42,13 +42,13 @@ abbrev pub slotTest : ℕ → ℕ → ℕ → List Entry → Bool
 slotTest k l c r = passTest k l (c + 4 ^ suc l) c (c / 4 ^ l) 0 r
 
 -- every block inside has a level above 0, at least k elements, and elements that pass
-abbrev pub insideTest : ℕ → Forest → Bool
+abbrev pub insideTest : {A : Type 0} → ℕ → ForestOf A → Bool
 insideTest k empty = true
 insideTest k (pixel c f) = insideTest k f
-insideTest k (block zero c es f) = false
-insideTest k (block (suc i) c es f) = leb k (size es) && (slotTest k i c (heads es) && (insideTest k es && insideTest k f))
+insideTest k (blockAt u zero c es f) = false
+insideTest k (blockAt w (suc i) c es f) = leb k (size es) && (slotTest k i c (heads es) && (insideTest k es && insideTest k f))
 
-abbrev pub localTest : ℕ → ℕ → ℕ → Forest → Bool
+abbrev pub localTest : {A : Type 0} → ℕ → ℕ → ℕ → ForestOf A → Bool
 localTest k l c es = slotTest k l c (heads es) && insideTest k es
 
 pub both : (a b : Bool) → a && b ≡ true → (a ≡ true) × (b ≡ true)
@@ -113,7 +113,7 @@ count-on k q r n h true e w =
     (omega (arith, rw e at (w .0), ap h e′), λ p. omega (arith, w .1 p))
 count-on k q r n h false e w = (omega (arith, rw (eq-eqb r r refl) at (w .1 r)), λ p. omega (arith, w .1 p))
 
-pub sparse-of-pass : (k l to from q n : ℕ) (f : Forest) → Arranged k (suc l) from to f → passTest k l to from q n (heads f) ≡ true → q * 4 ^ l ≤ from → n < k
+pub sparse-of-pass : {A : Type 0} (k l to from q n : ℕ) (f : ForestOf A) → Arranged k (suc l) from to f → passTest k l to from q n (heads f) ≡ true → q * 4 ^ l ≤ from → n < k
     → TallyBelow k q n (λ p. countIn l p f)
 sparse-of-pass k l to from q n empty w e a s = (omega arith, λ p. omega arith)
 sparse-of-pass k l to from q n (pixel c f) w e a s =
@@ -124,14 +124,14 @@ sparse-of-pass k l to from q n (pixel c f) w e a s =
     count-step k q r n (λ p. countIn l p f) b refl s (λ ne. countIn-after k (suc l) l q (suc c) to f (w .1) (omega (arith, past l q c (omega arith) ne)))
     (sparse-of-pass k l to (suc c) r (tally b n) f (w .1) (subst (λ (m : ℕ). passTest k l to m r (tally b n) (heads f) ≡ true) o (t .rest))
     (omega (arith, div-mul-le-self c (4 ^ l))) (t .count))
-sparse-of-pass k l to from q n (block i c es f) w e a s =
+sparse-of-pass k l to from q n (blockAt u i c es f) w e a s =
     let t = passed k l to from q n i c (heads f) e in
     let r = c / 4 ^ l in
     let b = eqb r q in
     count-step k q r n (λ p. countIn l p f) b refl s (λ ne. countIn-after k (suc l) l q (c + 4 ^ i) to f (w .7) (omega (arith, past l q c (omega arith) ne)))
     (sparse-of-pass k l to (c + 4 ^ i) r (tally b n) f (w .7) (t .rest) (omega (arith, div-mul-le-self c (4 ^ l))) (t .count))
 
-pub arranged-of-pass : (k l to from q n : ℕ) (f : Forest) → 0 < k → passTest k l to from q n (heads f) ≡ true → insideTest k f ≡ true → Arranged k (suc l) from to f
+pub arranged-of-pass : {A : Type 0} (k l to from q n : ℕ) (f : ForestOf A) → 0 < k → passTest k l to from q n (heads f) ≡ true → insideTest k f ≡ true → Arranged k (suc l) from to f
 arranged-of-pass k l to from q n empty h e g = leb-true from to e
 arranged-of-pass k l to from q n (pixel c f) h e g =
     let t = passed k l to from q n 0 c (heads f) e in
@@ -139,8 +139,8 @@ arranged-of-pass k l to from q n (pixel c f) h e g =
     let m = tally (eqb r q) n in
     let o : c + 4 ^ 0 ≡ suc c = omega arith in
     (t .above, arranged-of-pass k l to (suc c) r m f h (subst (λ (d : ℕ). passTest k l to d r m (heads f) ≡ true) o (t .rest)) g)
-arranged-of-pass k l to from q n (block zero c es f) h e g = zero-is-not-one (cc)
-arranged-of-pass k l to from q n (block (suc i) c es f) h e g =
+arranged-of-pass k l to from q n (blockAt u zero c es f) h e g = zero-is-not-one (cc)
+arranged-of-pass k l to from q n (blockAt w (suc i) c es f) h e g =
     let t = passed k l to from q n (suc i) c (heads f) e in
     let r = c / 4 ^ l in
     let m = tally (eqb r q) n in
@@ -158,7 +158,7 @@ arranged-of-pass k l to from q n (block (suc i) c es f) h e g =
       arranged-of-pass k l to (c + 4 ^ suc i) r m f h (t .rest) (y .1),
     )
 
-pub pass-of-arranged : (k l to from q n : ℕ) (f : Forest) → Arranged k (suc l) from to f → TallyBelow k q n (λ p. countIn l p f) → passTest k l to from q n (heads f) ≡ true
+pub pass-of-arranged : {A : Type 0} (k l to from q n : ℕ) (f : ForestOf A) → Arranged k (suc l) from to f → TallyBelow k q n (λ p. countIn l p f) → passTest k l to from q n (heads f) ≡ true
 pass-of-arranged k l to from q n empty w a = le-leb from to w
 pass-of-arranged k l to from q n (pixel c f) w a =
     let r = c / 4 ^ l in
@@ -167,22 +167,22 @@ pass-of-arranged k l to from q n (pixel c f) w a =
     let o : suc c ≡ c + 4 ^ 0 = omega arith in
     let e : passTest k l to (c + 4 ^ 0) r m (heads f) ≡ true = subst (λ (d : ℕ). passTest k l to d r m (heads f) ≡ true) o (pass-of-arranged k l to (suc c) r m f (w .1) b) in
     passes k l to from q n 0 c (heads f) (record { above = w .0; level = omega arith; aligned = mod-one c; count = omega arith; rest = e })
-pass-of-arranged k l to from q n (block i c es f) w a =
+pass-of-arranged k l to from q n (blockAt u i c es f) w a =
     let r = c / 4 ^ l in
     let m = tally (eqb r q) n in
     let b : TallyBelow k r m (λ p. countIn l p f) = count-on k q r n (λ p. countIn l p f) (eqb r q) refl a in
     passes k l to from q n i c (heads f)
     (record { above = w .0; level = omega arith; aligned = remainder-of-aligned i c (w .4); count = omega arith; rest = pass-of-arranged k l to (c + 4 ^ i) r m f (w .7) b })
 
-pub arranged-inside : (k n from to : ℕ) (f : Forest) → Arranged k n from to f → insideTest k f ≡ true
+pub arranged-inside : {A : Type 0} (k n from to : ℕ) (f : ForestOf A) → Arranged k n from to f → insideTest k f ≡ true
 arranged-inside k n from to empty w = refl
 arranged-inside k n from to (pixel c f) w = arranged-inside k n (suc c) to f (w .1)
-arranged-inside k n from to (block zero c es f) w = absurd (omega arith)
-arranged-inside k n from to (block (suc i) c es f) w =
+arranged-inside k n from to (blockAt u zero c es f) w = absurd (omega arith)
+arranged-inside k n from to (blockAt v (suc i) c es f) w =
     let p : slotTest k i c (heads es) ≡ true = pass-of-arranged k i (c + 4 ^ suc i) c (c / 4 ^ i) 0 es (w .6) (omega (arith, w .5 (c / 4 ^ i)), w .5) in
     rw (le-leb k (size es) (w .3), p, arranged-inside k (suc i) c (c + 4 ^ suc i) es (w .6), arranged-inside k n (c + 4 ^ suc i) to f (w .7))
 
-pub local-test-exact : (k l c : ℕ) (es : Forest) → 0 < k → (localTest k l c es ≡ true) ↔ LocallyRight k (suc l) c es
+pub local-test-exact : {A : Type 0} (k l c : ℕ) (es : ForestOf A) → 0 < k → (localTest k l c es ≡ true) ↔ LocallyRight k (suc l) c es
 local-test-exact k l c es h = (to, back)
   where
     to : localTest k l c es ≡ true → LocallyRight k (suc l) c es

@@ -35,7 +35,7 @@ marked-join M (suc n) p c = simp (suc-add, add-suc, keep-join, marked-join M n p
 abbrev PixelsAre : (ℕ → Bool) → ℕ → ℕ → ℕ → Forest → Type 0
 PixelsAre M i a b f = (n : ℕ) × (a + n ≡ b) × (pixels f ≡ markedFrom M n a)
 
-leaf : (M : ℕ → Bool) (c : ℕ) (b : Bool) → M c ≡ b → pixels (cond b (pixel c empty) empty) ≡ markedFrom M 1 c
+leaf : (M : ℕ → Bool) (c : ℕ) (b : Bool) → M c ≡ b → pixels {A = Unit {0}} (cond b (pixel c empty) empty) ≡ markedFrom M 1 c
 leaf M c true e = rw e
 leaf M c false e = rw e
 

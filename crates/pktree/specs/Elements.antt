@@ -5,22 +5,36 @@ use lib.Dec.{ltb}
 
 -- elements in ascending order: nothing; a pixel by its code, and what follows it;
 -- a block by its level, its code and its own elements, and what follows it
-pub data Forest : Type 0 where
-  empty : Forest
-  pixel : ℕ → Forest → Forest
-  block : ℕ → ℕ → Forest → Forest → Forest
+-- each block with a label of type A
+pub data ForestOf (A : Type 0) : Type 0 where
+  empty : ForestOf A
+  pixel : ℕ → ForestOf A → ForestOf A
+  blockAt : A → ℕ → ℕ → ForestOf A → ForestOf A → ForestOf A
+
+-- a forest without labels
+abbrev pub Forest : Type 0
+Forest = ForestOf (Unit {0})
+
+abbrev pub block : ℕ → ℕ → Forest → Forest → Forest
+block level code inside rest = blockAt tt level code inside rest
 
 infixr 50 _⧺_
-abbrev pub _⧺_ : Forest → Forest → Forest
+abbrev pub _⧺_ : {A : Type 0} → ForestOf A → ForestOf A → ForestOf A
 empty ⧺ g = g
 pixel c f ⧺ g = pixel c (f ⧺ g)
-block i c es f ⧺ g = block i c es (f ⧺ g)
+blockAt a i c es f ⧺ g = blockAt a i c es (f ⧺ g)
 
 -- the number of elements
-abbrev pub size : Forest → ℕ
+abbrev pub size : {A : Type 0} → ForestOf A → ℕ
 size empty = 0
 size (pixel c f) = suc (size f)
-size (block i c es f) = suc (size f)
+size (blockAt u i c es f) = suc (size f)
+
+-- without the labels
+abbrev pub unlabelled : {A : Type 0} → ForestOf A → Forest
+unlabelled empty = empty
+unlabelled (pixel c f) = pixel c (unlabelled f)
+unlabelled (blockAt u i c es f) = block i c (unlabelled es) (unlabelled f)
 
 -- what a quarter with the elements es gives: fewer than k, those; k or more, itself as one element
 abbrev pub give : ℕ → ℕ → ℕ → Forest → Forest

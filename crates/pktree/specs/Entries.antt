@@ -3,7 +3,7 @@ use Prim.Native.Nat.{ℕ}
 use mathlib.Core.Bool.{cond}
 use mathlib.Core.List.{List, [], _∷_, _++_}
 use lib.Dec.{eqb}
-use Rattle.pktree.specs.Elements.{Forest, empty, pixel, block}
+use Rattle.pktree.specs.Elements.{Forest, empty, pixel, block, blockAt}
 
 pub record Entry : Type 0 where
   pub level : ℕ
@@ -16,7 +16,7 @@ entry level code = record { level = level; code = code }
 abbrev pub entries : Forest → List Entry
 entries empty = []
 entries (pixel c f) = entry 0 c ∷ entries f
-entries (block i c es f) = entry i c ∷ (entries es ++ entries f)
+entries (blockAt u i c es f) = entry i c ∷ (entries es ++ entries f)
 
 -- the codes of the entries of level 0
 abbrev pub pixelEntries : List Entry → List ℕ

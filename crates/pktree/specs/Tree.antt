@@ -5,7 +5,7 @@ use mathlib.Core.Bool.{Bool}
 use mathlib.Core.Logic.{_⊎_}
 use mathlib.Core.List.{List, [], _∷_, _++_}
 use Rattle.pktree.specs.Panel.{Panel, Block}
-use Rattle.pktree.specs.Elements.{Forest, empty, pixel, block, size, gather}
+use Rattle.pktree.specs.Elements.{ForestOf, Forest, empty, pixel, block, blockAt, size, gather}
 
 -- 01: a block is instantiated when it has at least k elements, or is the root
 pub record Instantiated (panel : Panel) (marked : ℕ → Bool) (level code : ℕ) : Type 0 where
@@ -29,10 +29,10 @@ blockOf level code elements = record { level = level; code = code; elements = el
 abbrev pub blocks : Forest → List BlockOf
 blocks empty = []
 blocks (pixel c f) = blocks f
-blocks (block i c es f) = blockOf i c es ∷ (blocks es ++ blocks f)
+blocks (blockAt u i c es f) = blockOf i c es ∷ (blocks es ++ blocks f)
 
 -- the codes of all pixels
-abbrev pub pixels : Forest → List ℕ
+abbrev pub pixels : {A : Type 0} → ForestOf A → List ℕ
 pixels empty = []
 pixels (pixel c f) = c ∷ pixels f
-pixels (block i c es f) = pixels es ++ pixels f
+pixels (blockAt u i c es f) = pixels es ++ pixels f

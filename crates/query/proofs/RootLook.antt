@@ -1,65 +1,69 @@
--- What a call looks with from the root on: the layout and the most pixels that the store's own words say; and what it answers there.
-use Prim.Native.Nat.{ℕ, suc}
+-- What the walk from the root answers is count's answer.
+use Prim.Native.Nat.{ℕ, _+_, _<_, _≤_}
 use native.Mathlib.Omega.{arith}
-use native.Mathlib.Nat.{zero-add}
-use native.Mathlib.Numerals.{one-add}
-use mathlib.Core.Path.{_≡_, ap, ap₂, subst₂, sym, _∙_}
+use mathlib.Core.Path.{_≡_, refl, ap, ap₂, subst, subst₂, sym, _∙_}
 use mathlib.Core.List.{List}
 use lib.ListN.{length, getD}
-use Rattle.measures.specs.Sizes.{UsableStore, sizesOf}
+use Rattle.pktree.specs.PixelSet.{member}
+use Rattle.pktree.specs.Tree.{tree as setTree}
+use Rattle.pktree.specs.Window as tree
+use Rattle.pktree.specs.Window.{found, openedByWindow}
+use Rattle.measures.specs.Sizes.{UsableStore, panelOf, slotCount, sizesOf}
 use Rattle.measures.specs.Layout.{LaidOut, layoutOf}
-use Rattle.store.specs.Placed.{Placed, forestOf}
+use Rattle.store.specs.Opening.{CannotOpen}
+use Rattle.store.specs.Sound.{Holds}
 use Rattle.measures.specs.declared.sizes.Sizes.{Sizes}
 use Rattle.measures.specs.declared.sizes.Layout.{Layout}
-use Rattle.measures.proofs.Usable.{sizes-valid, layout-said, layout-fits}
+use Rattle.measures.proofs.Usable.{layout-said}
 use Rattle.query.specs.declared.count.Look.{Look}
+use Rattle.query.specs.declared.count.Sum.{Sum}
 use Rattle.query.specs.declared.count.Counted.{Counted}
 use Rattle.query.specs.declared.count.Counted.the-variants.{Seen, Damaged}
+use Rattle.query.specs.declared.window.Window.{Window}
 use Rattle.query.specs.declared.window.Corners.{Corners}
-use Rattle.query.specs.Corners.{windowBetween}
-use Rattle.query.specs.Counting.{CanCount, RoomFor, CountBounds, CountMeets, CountWithin, CountAnswer}
+use Rattle.query.specs.Corners.{windowBetween, windowOf, CornersOf, Ordered}
+use Rattle.query.specs.Counting.{BeginsOnPanel, CountMeets, SumCase, SumWithin, CountAnswer}
 use Rattle.query.proofs.WholeTree.{WholeTree, whole-tree}
 
 -- as the code makes it
-abbrev pub lookOf : Layout → Sizes → Corners → Look
-lookOf layout sizes corners = record { layout = layout; most = sizes .most; corners = corners }
+abbrev pub lookOf : Layout → Corners → Look
+lookOf layout corners = record { layout = layout; corners = corners }
 
-abbrev pub rootLook : List ℕ → Corners → Look
-rootLook words corners = lookOf (layoutOf (sizesOf words)) (sizesOf words) corners
+-- what is learnt of the code's layout and order is learnt of the words' own
+pub of-root : {sizes : Sizes} {layout : Layout} (words : List ℕ) (P : Layout → Sizes → Type 0) → sizes ≡ sizesOf words → LaidOut sizes layout → P layout sizes
+    → P (layoutOf (sizesOf words)) (sizesOf words)
+of-root words P said laid = subst₂ P (layout-said words said laid) said
 
-pub can-start : {words : List ℕ} {sizes : Sizes} {layout : Layout} {corners : Corners} → UsableStore words → sizes ≡ sizesOf words → LaidOut sizes layout
-    → CanCount (lookOf layout sizes corners) words (sizes .order) 0 0
-can-start {words} {sizes} {layout} usable said laid =
-    let valid = sizes-valid usable said in
-    record {
-      fits = layout-fits sizes layout words usable said laid;
-      level-to = valid .panel .order-to;
-      most-to = valid .most-to;
-      found-to = omega (arith, valid .panel .order-to);
-      opened-to = omega arith;
-    }
+module _ {words : List ℕ} {corners : Corners} {sum : Sum} (usable : UsableStore words)
+    (meets : CountMeets (lookOf (layoutOf (sizesOf words)) corners) words 17 0 (getD words 1 0) 0 0 0 sum) where
+  sum-is : {set : List ℕ} → Holds words set → Ordered (windowBetween corners) → BeginsOnPanel (panelOf (sizesOf words)) (windowBetween corners)
+      → (sum .found ≡ length (found (windowBetween corners) set)) × (sum .opened ≡ openedByWindow (windowBetween corners) (setTree (panelOf (sizesOf words)) (member set)))
+      × (sum .found ≤ getD words 3 0) × (sum .opened ≤ slotCount (getD words 2 0) (getD words 3 0))
+  sum-is {set} holds ordered on =
+      let (es, t) = whole-tree words (windowBetween corners) set holds ordered on in
+      let n = ap length (t .all-found) in
+      let a = meets .inside .right (getD words 2 0) es (omega (arith, t .view .level-to)) (t .view) .says ordered (omega (arith, t .few-found, usable .valid .most-to)) (omega (arith, t .few-opened)) in
+      (omega (arith, a .0, n), omega (arith, a .1, t .all-opened), omega (arith, a .0, t .few-found), omega (arith, a .1, t .few-opened))
 
--- what is learnt of the code's look is learnt of the words' own
-pub of-root-look : {sizes : Sizes} {layout : Layout} (words : List ℕ) (corners : Corners) (P : Look → ℕ → Type 0) → sizes ≡ sizesOf words → LaidOut sizes layout
-    → P (lookOf layout sizes corners) (sizes .order) → P (rootLook words corners) (getD words 1 0)
-of-root-look words corners P said laid = subst₂ (λ (l : Layout) (s : Sizes). P (lookOf l s corners) (s .order)) (layout-said words said laid) said
+  root-counted : (r : Counted) → SumCase (getD words 3 0) (layoutOf (sizesOf words)) sum r → CountAnswer words (windowBetween corners) r
+  root-counted (Seen f o) h =
+      record {
+        bounds = record { found-to = h .2; opened-to = h .3 };
+        sound = λ set holds ordered on. let s = sum-is holds ordered on in ap₂ Seen (h .0 ∙ s .0) (h .1 ∙ s .1);
+        closed = λ shut. absurd (omega (arith, h .1, h .3, meets .closed shut));
+      }
+  root-counted Damaged h =
+      record {
+        bounds = tt;
+        sound = λ set holds ordered on. let s = sum-is holds ordered on in absurd (omega (arith, h (s .2), s .3));
+        closed = λ shut. refl;
+      }
 
-pub room-at-root : {words set : List ℕ} {corners : Corners} {es : Placed} → WholeTree words (windowBetween corners) set es → RoomFor (rootLook words corners) 0 (suc 0) (forestOf es)
-room-at-root t = record { room-found = omega (arith, t .few-found); room-opened = omega (arith, t .few-opened) }
-
-count-within : (words : List ℕ) (corners : Corners) (r : Counted) → CountBounds (rootLook words corners) r → CountWithin words r
-count-within words corners (Seen found opened) h = record { found-to = h .0; opened-to = h .1 }
-count-within words corners Damaged h = tt
-
--- what the walk from the root answers is count's answer
-pub root-counted : (words : List ℕ) (corners : Corners) (r : Counted) → CountMeets (rootLook words corners) words 0 (getD words 1 0) 0 0 0 r
-    → CountAnswer words (windowBetween corners) r
-root-counted words corners r meets =
-    record {
-      bounds = count-within words corners r (meets .bounds);
-      sound = λ set holds ordered on.
-          let (es, t) = whole-tree words (windowBetween corners) set holds ordered on in
-          meets .right (getD words 2 0) es (t .view) ordered (room-at-root t)
-          ∙ ap₂ Seen (zero-add _ ∙ ap length (t .all-found)) (one-add _ ∙ sym (t .all-opened));
-      closed = meets .closed;
-    }
+-- of the call's sizes and window
+pub count-answered : {words : List ℕ} {sizes : Sizes} {layout : Layout} {window : Window} {corners : Corners} {sum : Sum} {r : Counted} → UsableStore words → sizes ≡ sizesOf words
+    → LaidOut sizes layout → CornersOf window corners → CountMeets (lookOf layout corners) words 17 0 (sizes .order) 0 0 0 sum → SumWithin (sizes .most) layout sum r
+    → CountAnswer words (windowOf window) r
+count-answered {words} {corners = corners} {sum = sum} {r = r} usable said laid same meets within =
+    subst (λ (w : tree.Window). CountAnswer words w r) (same .same-window)
+    (root-counted usable (of-root words (λ l z. CountMeets (lookOf l corners) words 17 0 (z .order) 0 0 0 sum) said laid meets) r
+    (of-root words (λ l z. SumWithin (z .most) l sum r) said laid within .case))

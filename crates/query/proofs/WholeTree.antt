@@ -11,6 +11,7 @@ use Rattle.pktree.specs.PixelSet.{member}
 use Rattle.pktree.specs.Elements.{empty, block}
 use Rattle.pktree.specs.Tree.{tree, pixels, blockOf}
 use Rattle.pktree.specs.Window.{Window, found, sharesPixel, openedByWindow}
+use Rattle.pktree.proofs.Unlabelled.{pixels-unlabelled, blockCount-unlabelled}
 use Rattle.measures.specs.Sizes.{panelOf, slotCount, slotWidth, sizesOf}
 use Rattle.store.specs.Placed.{Placed, forestOf}
 use Rattle.store.specs.Sound.{Holds}
@@ -48,9 +49,9 @@ whole-tree words window set holds ordered on =
       es,
       record {
         view = root;
-        all-found = ap (found window) (sym (v .same-pixels) ∙ holds .set-is);
+        all-found = ap (found window) (pixels-unlabelled es ∙ sym (v .same-pixels) ∙ holds .set-is);
         all-opened = ap (openedByWindow window) is ∙ block-opened window (getD words 1 0) 0 (forestOf es) shares .one-opened;
-        few-found = omega (arith, found-few window (pixels (forestOf es)), ap length (v .same-pixels), holds .sound .fits);
-        few-opened = omega (arith, opened-few window (forestOf es), v .few);
+        few-found = omega (arith, found-few window (pixels (forestOf es)), ap length (pixels-unlabelled es), ap length (v .same-pixels), holds .sound .fits);
+        few-opened = omega (arith, opened-few window (forestOf es), blockCount-unlabelled es, v .few);
       },
     )

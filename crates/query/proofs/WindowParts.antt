@@ -6,7 +6,7 @@ use mathlib.Core.Bool.{Bool, true, false, cond, false≢true}
 use mathlib.Core.List.{List, [], _∷_, _++_, append-nil}
 use lib.ListN.{length, length-append}
 use Rattle.pktree.specs.Lists.{select}
-use Rattle.pktree.specs.Elements.{Forest, empty, pixel, block, _⧺_}
+use Rattle.pktree.specs.Elements.{Forest, empty, pixel, block, _⧺_, blockAt}
 use Rattle.pktree.specs.Tree.{blockOf, blocks, pixels}
 use Rattle.pktree.specs.Window.{Window, inWindow, found, sharesPixel, openedByWindow}
 use Rattle.pktree.proofs.Arranged.{Arranged, LocallyRight, arranged-le}
@@ -65,7 +65,7 @@ nothing-outside window k n from to (pixel c f) h out =
     let rest = nothing-outside window k n (suc c) to f (h .1) (λ code p q. out code (omega arith) q) in
     let no : inWindow window c ≡ false = false-unless _ (out c (h .0) (omega (arith, arranged-le k n (suc c) to f (h .1)))) in
     (rw no (rest .0), rest .1)
-nothing-outside window k n from to (block i c es f) h out =
+nothing-outside window k n from to (blockAt v i c es f) h out =
     let end = arranged-le k n (c + 4 ^ i) to f (h .7) in
     let inside = nothing-outside window k i c (c + 4 ^ i) es (h .6) (λ code p q. out code (omega arith) (omega arith)) in
     let rest = nothing-outside window k n (c + 4 ^ i) to f (h .7) (λ code p q. out code (omega arith) q) in

@@ -1,5 +1,5 @@
 -- The tests that the code makes of a window, against what they decide.
-use Prim.Native.Nat.{ℕ, _+_, _*_, _/_, _^_, _≤_, _<_}
+use Prim.Native.Nat.{ℕ, _+_, _*_, _/_, _^_, _≤_, _<_, _%_}
 use native.Mathlib.Decide.{decLt}
 use native.Mathlib.Omega.{arith}
 use mathlib.Core.Path.{_≡_, refl, ap, sym, _∙_}
@@ -72,11 +72,13 @@ grid-test w a c p pos ga gc from to = go (decLt p (c + w)) (decLt p c)
         le-leb a c (omega arith) ∙ sym (lt-ltb p (c + w) h)
 
 -- a block meets the window where its lowest corner is in the window that begins with the whole block around the first pixel
-pub block-tested : (corners : Corners) (level code : ℕ) {around : ℕ} {r : Bool} → corners .first < 4 ^ 16 → level ≤ 15 → around ≡ corners .first / 4 ^ level * 4 ^ level
+pub block-tested : (corners : Corners) (level code : ℕ) {around : ℕ} {r : Bool} → corners .first < 4 ^ 16 → around ≡ corners .first / 4 ^ (level % 16) * 4 ^ (level % 16)
     → PixelTested (record { first = around; last = corners .last }) code r → BlockTested corners level code r
-block-tested corners level code {around} small low e tested =
+block-tested corners level code {around} small masked tested =
     record {
-      says = λ aligned ordered.
+      says = λ low aligned ordered.
+          let same : level % 16 ≡ level = omega arith in
+          let e : around ≡ corners .first / 4 ^ level * 4 ^ level = rw same at masked in
           let first : ℕ = corners .first in
           let on-grid : Aligned level around = rw e (blockCode-aligned level first) in
           let from : around ≤ first = omega (arith, e, blockCode-le level first) in

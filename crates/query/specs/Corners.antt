@@ -42,4 +42,4 @@ pub record PixelTested (corners : Corners) (code : ℕ) (r : Bool) : Type 0 wher
   pub says : Ordered (windowBetween corners) → r ≡ inWindow (windowBetween corners) code
 
 pub record BlockTested (corners : Corners) (level code : ℕ) (r : Bool) : Type 0 where
-  pub says : Aligned level code → Ordered (windowBetween corners) → r ≡ cornersMeet (windowBetween corners) level code
+  pub says : level ≤ 15 → Aligned level code → Ordered (windowBetween corners) → r ≡ cornersMeet (windowBetween corners) level code

@@ -1,9 +1,8 @@
-ghost use Prim.Native.Nat.{_+_, _<_};
 ghost use mathlib.Core.Path.{_≡_};
-ghost use Rattle.query.specs.Counting.{CanCount, PixelCounted, SeenAtMost, CountMeets, CountAnswer};
+ghost use Rattle.query.specs.Counting.{PixelCounted, CountMeets, SumWithin, CountAnswer};
 ghost use Rattle.query.specs.Corners.{windowOf, HasCodes};
+ghost use Rattle.measures.specs.Layout.{LayoutFits};
 ghost use Rattle.measures.specs.Sizes.{UsableStore, sizesOf};
-use crate::opened::open_slot;
 use crate::window::Corners;
 use crate::window::Window;
 use crate::window::corners_of;
@@ -12,17 +11,24 @@ use crate::window::meets;
 use measures::sizes::Layout;
 use measures::sizes::Sizes;
 use measures::sizes::layout_of;
-use measures::slots::slot_part;
 use measures::slots::wide;
+use std::num::wrapping_add_u32;
 use store::elements::Element;
 use store::elements::element_at;
 use store::opening::Opening;
+use walks::enter;
+use walks::part_of;
 
-// What a window walk is given: where the slots lie, the most pixels (01's N), and the window.
+// What a window walk is given: where the slots lie, and the window.
 pub struct Look {
     pub layout: Layout,
-    pub most: u32,
     pub corners: Corners,
+}
+
+// The pixels found and the blocks opened so far. More blocks than there are slots: the words are damaged.
+pub struct Sum {
+    pub found: u32,
+    pub opened: u32,
 }
 
 pub enum Counted {
@@ -30,65 +36,81 @@ pub enum Counted {
     Damaged,
 }
 
+// More pixels than a word counts are met on damaged words only.
 fn count_pixel(corners: Corners, code: u32, found: u32) -> u32
-    requires { ⌜ found < 4294967295 ⌝ }
     ensures { λ r. ⌜ PixelCounted corners code found r ⌝ }
 {
     if has_pixel(corners, code) {
-        return found + 1;
+        return wrapping_add_u32(found, 1);
     }
     found
 }
 
-// More pixels than 01's N are found on damaged words only.
-pub fn at_most(most: u32, found: u32, opened: u32) -> Counted
-    ensures { λ r. ⌜ SeenAtMost most found opened r ⌝ }
-{
-    if most < found {
-        return Counted::Damaged;
-    }
-    Counted::Seen { found, opened }
-}
-
-// The block in this slot is opened: `found` pixels were found and `opened` blocks opened before it.
+// The block in this slot, an element of a block of level `above`, is opened: `found` pixels were found and `opened` blocks opened before it.
 fn count_block(
     store: &[u32],
     look: Look,
+    above: u32,
     slot: u32,
     level: u32,
     code: u32,
     found: u32,
     opened: u32,
-) -> Counted
-    requires { ⌜ CanCount look (now store) level found opened ⌝ }
-    ensures { λ r. ⌜ CountMeets look (now (store .entry)) slot level code found opened r ⌝ }
+) -> Sum
+    requires { ⌜ LayoutFits (look .layout) (now store) ⌝ }
+    ensures { λ r. ⌜ CountMeets look (now (store .entry)) above slot level code found opened r ⌝ }
 {
-    let Opening::Elements(count) = open_slot(store, look.layout, slot, level, code, opened) else {
-        return Counted::Damaged;
+    if look.layout.slots <= wide(opened) {
+        return Sum {
+            found: 0,
+            opened: 65536,
+        };
+    }
+    let Opening::Elements(count) = enter(store, look.layout, above, slot, level, code) else {
+        return Sum {
+            found: 0,
+            opened: 65536,
+        };
     };
-    let part = slot_part(store, look.layout, wide(slot));
-    let above = level;
+    let part = part_of(store, look.layout, slot);
     let mut pixels = found;
     let mut blocks = opened + 1;
     for i in 0..count {
         match element_at(part, i) {
-            Element::Pixel(code) => pixels = count_pixel(look.corners, code, pixels),
-            Element::Block { slot, level, code } => {
-                if above <= level {
-                    return Counted::Damaged;
-                }
-                if meets(look.corners, level, code) {
-                    let seen = count_block(store, look, slot, level, code, pixels, blocks);
-                    let Counted::Seen { found, opened } = seen else {
-                        return Counted::Damaged;
-                    };
-                    pixels = found;
-                    blocks = opened;
+            Element::Pixel(c) => pixels = count_pixel(look.corners, c, pixels),
+            Element::Block {
+                slot: s,
+                level: inner,
+                code: c,
+            } => {
+                if meets(look.corners, inner, c) {
+                    let sum = count_block(store, look, level, s, inner, c, pixels, blocks);
+                    pixels = sum.found;
+                    blocks = sum.opened;
                 }
             }
         }
     }
-    at_most(look.most, pixels, blocks)
+    Sum {
+        found: pixels,
+        opened: blocks,
+    }
+}
+
+// Never more pixels than 01's N, nor more blocks than there are slots, but on damaged words.
+pub fn within(most: u32, layout: Layout, sum: Sum) -> Counted
+    ensures { λ r. ⌜ SumWithin most layout sum r ⌝ }
+{
+    if most < sum.found {
+        return Counted::Damaged;
+    }
+    if layout.slots < wide(sum.opened) {
+        return Counted::Damaged;
+    }
+    Counted::Seen {
+        found: sum.found,
+        opened: sum.opened,
+    }
 }
 
 // 01's count, where refusals 3, 4 and 8 do not apply.
@@ -96,10 +118,14 @@ pub fn count(store: &[u32], sizes: Sizes, window: Window) -> Counted
     requires { ⌜ UsableStore (now store) × (sizes ≡ sizesOf (now store)) × HasCodes window ⌝ }
     ensures { λ r. ⌜ CountAnswer (now (store .entry)) (windowOf window) r ⌝ }
 {
+    let layout = layout_of(sizes);
     let look = Look {
-        layout: layout_of(sizes),
-        most: sizes.most,
+        layout,
         corners: corners_of(window),
     };
-    count_block(store, look, 0, sizes.order, 0, 0, 0)
+    within(
+        sizes.most,
+        layout,
+        count_block(store, look, 17, 0, sizes.order, 0, 0, 0),
+    )
 }

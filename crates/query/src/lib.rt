@@ -2,5 +2,4 @@
 // and stops as soon as the words cannot be those of a sound store.
 pub mod ask;
 pub mod count;
-pub mod opened;
 pub mod window;

@@ -1,4 +1,3 @@
-ghost use Prim.Native.Nat.{_≤_};
 ghost use Rattle.query.specs.Corners.{HasCodes, CornersOf, PixelTested, BlockTested};
 
 // 01: both corners included.
@@ -36,11 +35,10 @@ pub fn has_pixel(corners: Corners, code: u32) -> bool
 
 // A block meets the window where its lowest corner is in the window that begins with the whole block around the first pixel.
 pub fn meets(corners: Corners, level: u32, code: u32) -> bool
-    requires { ⌜ level ≤ 15 ⌝ }
     ensures { λ r. ⌜ BlockTested corners level code r ⌝ }
 {
     let from_block = Corners {
-        first: morton::block_around(corners.first, level),
+        first: morton::block_around(corners.first, level % 16),
         last: corners.last,
     };
     has_pixel(from_block, code)

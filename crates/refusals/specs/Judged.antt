@@ -7,6 +7,8 @@ use Rattle.morton.specs.Code.{codeOf}
 use Rattle.pktree.specs.Panel.{HasPixel, OnPanel}
 use Rattle.measures.specs.declared.sizes.Sizes.{Sizes}
 use Rattle.measures.specs.Sizes.{panelOf, sizesOf, UsableStore}
+use Rattle.refusals.specs.declared.Refusal.{Refusal}
+use Rattle.refusals.specs.declared.Refusal.the-variants.{NoRegister, OffPanel, WindowReversed}
 use Rattle.refusals.specs.declared.PixelJudged.{PixelJudged}
 use Rattle.refusals.specs.declared.PixelJudged.the-variants as pixel
 use Rattle.refusals.specs.declared.WindowJudged.{WindowJudged}
@@ -23,12 +25,12 @@ pub record PixelGiven (words : List ℕ) (x y : ℕ) (sizes : Sizes) (code : ℕ
   pub code-is : code ≡ codeOf x y
   pub code-on-panel : OnPanel (panelOf sizes) code
 
-abbrev pub PixelRefused : List ℕ → ℕ → ℕ → ℕ → Type 0
-PixelRefused words x y n = ((n ≡ 3) × (UsableStore words → ⊥)) ⊎ ((n ≡ 4) × UsableStore words × (HasPixelOn words x y → ⊥))
+abbrev pub PixelRefused : List ℕ → ℕ → ℕ → Refusal → Type 0
+PixelRefused words x y refusal = ((refusal ≡ NoRegister) × (UsableStore words → ⊥)) ⊎ ((refusal ≡ OffPanel) × UsableStore words × (HasPixelOn words x y → ⊥))
 
 abbrev pub JudgedPixel : List ℕ → ℕ → ℕ → PixelJudged → Type 0
 JudgedPixel words x y (pixel.Pixel sizes code) = PixelGiven words x y sizes code
-JudgedPixel words x y (pixel.Refused n) = PixelRefused words x y n
+JudgedPixel words x y (pixel.Refused refusal) = PixelRefused words x y refusal
 
 -- both corners are on the store's panel
 abbrev pub CornersOn : List ℕ → ℕ → ℕ → ℕ → ℕ → Type 0
@@ -40,11 +42,11 @@ pub record WindowGiven (words : List ℕ) (x0 y0 x1 y1 : ℕ) (sizes : Sizes) : 
   pub on-panel : CornersOn words x0 y0 x1 y1
   pub ordered : (x0 ≤ x1) × (y0 ≤ y1)
 
-abbrev pub WindowRefused : List ℕ → ℕ → ℕ → ℕ → ℕ → ℕ → Type 0
-WindowRefused words x0 y0 x1 y1 n =
-    ((n ≡ 3) × (UsableStore words → ⊥)) ⊎ ((n ≡ 4) × UsableStore words × (CornersOn words x0 y0 x1 y1 → ⊥))
-    ⊎ ((n ≡ 8) × UsableStore words × CornersOn words x0 y0 x1 y1 × ((x0 ≤ x1) × (y0 ≤ y1) → ⊥))
+abbrev pub WindowRefused : List ℕ → ℕ → ℕ → ℕ → ℕ → Refusal → Type 0
+WindowRefused words x0 y0 x1 y1 refusal =
+    ((refusal ≡ NoRegister) × (UsableStore words → ⊥)) ⊎ ((refusal ≡ OffPanel) × UsableStore words × (CornersOn words x0 y0 x1 y1 → ⊥))
+    ⊎ ((refusal ≡ WindowReversed) × UsableStore words × CornersOn words x0 y0 x1 y1 × ((x0 ≤ x1) × (y0 ≤ y1) → ⊥))
 
 abbrev pub JudgedWindow : List ℕ → ℕ → ℕ → ℕ → ℕ → WindowJudged → Type 0
 JudgedWindow words x0 y0 x1 y1 (window.Window sizes) = WindowGiven words x0 y0 x1 y1 sizes
-JudgedWindow words x0 y0 x1 y1 (window.Refused n) = WindowRefused words x0 y0 x1 y1 n
+JudgedWindow words x0 y0 x1 y1 (window.Refused refusal) = WindowRefused words x0 y0 x1 y1 refusal

@@ -4,9 +4,26 @@ use measures::sizes::Sizes;
 use measures::sizes::SizesRead;
 use measures::sizes::read_sizes;
 
+// 01 "Who is refused, and how": the refusals, in the order of their numbers, 1 to 13.
+pub enum Refusal {
+    BeyondLimits,
+    StoreTooShort,
+    NoRegister,
+    OffPanel,
+    AlreadyMarked,
+    Full,
+    NotMarked,
+    WindowReversed,
+    OutputTooShort,
+    NotAnImage,
+    ImageUnlike,
+    ImageDamaged,
+    StoreDamaged,
+}
+
 pub enum PixelJudged {
     Pixel { sizes: Sizes, code: u32 },
-    Refused(u32),
+    Refused(Refusal),
 }
 
 // A pixel of a usable store's panel, with its code; or 3 or 4.
@@ -14,14 +31,14 @@ pub fn judge_pixel(store: &[u32], x: u32, y: u32) -> PixelJudged
     ensures { λ r. ⌜ JudgedPixel (now (store .entry)) x y r ⌝ }
 {
     let SizesRead::Usable(sizes) = read_sizes(store) else {
-        return PixelJudged::Refused(3);
+        return PixelJudged::Refused(Refusal::NoRegister);
     };
     let side = 1u32 << sizes.order;
     if side <= x {
-        return PixelJudged::Refused(4);
+        return PixelJudged::Refused(Refusal::OffPanel);
     }
     if side <= y {
-        return PixelJudged::Refused(4);
+        return PixelJudged::Refused(Refusal::OffPanel);
     }
     PixelJudged::Pixel {
         sizes,
@@ -31,7 +48,7 @@ pub fn judge_pixel(store: &[u32], x: u32, y: u32) -> PixelJudged
 
 pub enum WindowJudged {
     Window(Sizes),
-    Refused(u32),
+    Refused(Refusal),
 }
 
 // A window on a usable store's panel; or 3, 4 or 8.
@@ -39,26 +56,26 @@ pub fn judge_window(store: &[u32], x0: u32, y0: u32, x1: u32, y1: u32) -> Window
     ensures { λ r. ⌜ JudgedWindow (now (store .entry)) x0 y0 x1 y1 r ⌝ }
 {
     let SizesRead::Usable(sizes) = read_sizes(store) else {
-        return WindowJudged::Refused(3);
+        return WindowJudged::Refused(Refusal::NoRegister);
     };
     let side = 1u32 << sizes.order;
     if side <= x0 {
-        return WindowJudged::Refused(4);
+        return WindowJudged::Refused(Refusal::OffPanel);
     }
     if side <= y0 {
-        return WindowJudged::Refused(4);
+        return WindowJudged::Refused(Refusal::OffPanel);
     }
     if side <= x1 {
-        return WindowJudged::Refused(4);
+        return WindowJudged::Refused(Refusal::OffPanel);
     }
     if side <= y1 {
-        return WindowJudged::Refused(4);
+        return WindowJudged::Refused(Refusal::OffPanel);
     }
     if x1 < x0 {
-        return WindowJudged::Refused(8);
+        return WindowJudged::Refused(Refusal::WindowReversed);
     }
     if y1 < y0 {
-        return WindowJudged::Refused(8);
+        return WindowJudged::Refused(Refusal::WindowReversed);
     }
     WindowJudged::Window(sizes)
 }

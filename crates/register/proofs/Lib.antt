@@ -1,6 +1,6 @@
+pub mod Ladder
+pub mod Refusals
 pub mod Makes
-pub mod Pixels
-pub mod Looks
 pub mod Changes
+pub mod Looks
 pub mod Loads
-pub mod Checks

@@ -1,6 +1,8 @@
 -- 01's number and values for each answer: the refusal, 0 for an accepted call, and two values, zero beside every refusal but 9.
 use Prim.Native.Nat.{ℕ}
 use mathlib.Core.Bool.{Bool, true, false}
+use Rattle.refusals.specs.declared.Refusal.{Refusal}
+use Rattle.refusals.specs.declared.Refusal.the-variants.{BeyondLimits, StoreTooShort, NoRegister, OffPanel, AlreadyMarked, Full, NotMarked, WindowReversed, OutputTooShort, NotAnImage, ImageUnlike, ImageDamaged, StoreDamaged}
 use Rattle.register.specs.declared.Outcome.{Outcome}
 use Rattle.register.specs.declared.Outcome.the-variants as outcome
 use Rattle.register.specs.declared.Asking.{Asking}
@@ -13,6 +15,22 @@ use Rattle.register.specs.declared.Saving.{Saving}
 use Rattle.register.specs.declared.Saving.the-variants as saving
 use Rattle.register.specs.declared.Checking.{Checking}
 use Rattle.register.specs.declared.Checking.the-variants as checking
+
+-- 01: the refusals by number
+abbrev pub numberOf : Refusal → ℕ
+numberOf BeyondLimits = 1
+numberOf StoreTooShort = 2
+numberOf NoRegister = 3
+numberOf OffPanel = 4
+numberOf AlreadyMarked = 5
+numberOf Full = 6
+numberOf NotMarked = 7
+numberOf WindowReversed = 8
+numberOf OutputTooShort = 9
+numberOf NotAnImage = 10
+numberOf ImageUnlike = 11
+numberOf ImageDamaged = 12
+numberOf StoreDamaged = 13
 
 pub record Answer : Type 0 where
   pub refusal : ℕ
@@ -36,27 +54,27 @@ yesNo false = 0
 -- make, mark, clear and load return only that they were done
 abbrev pub answer : Outcome → Answer
 answer outcome.Done = accepted 0 0
-answer (outcome.Refused number) = refused number
+answer (outcome.Refused refusal) = refused (numberOf refusal)
 
 abbrev pub askAnswer : Asking → Answer
 askAnswer (asking.Answered marked opened) = accepted (yesNo marked) opened
-askAnswer (asking.Refused number) = refused number
+askAnswer (asking.Refused refusal) = refused (numberOf refusal)
 
 abbrev pub countAnswer : Counting → Answer
 countAnswer (counting.Found found opened) = accepted found opened
-countAnswer (counting.Refused number) = refused number
+countAnswer (counting.Refused refusal) = refused (numberOf refusal)
 
 abbrev pub listAnswer : Listing → Answer
 listAnswer (listing.Found found opened) = accepted found opened
 listAnswer (listing.Short needed) = short needed
-listAnswer (listing.Refused number) = refused number
+listAnswer (listing.Refused refusal) = refused (numberOf refusal)
 
 abbrev pub saveAnswer : Saving → Answer
 saveAnswer (saving.Saved length) = accepted length 0
 saveAnswer (saving.Short needed) = short needed
-saveAnswer (saving.Refused number) = refused number
+saveAnswer (saving.Refused refusal) = refused (numberOf refusal)
 
 abbrev pub checkAnswer : Checking → Answer
 checkAnswer checking.Sound = accepted 1 0
 checkAnswer checking.Unsound = accepted 0 0
-checkAnswer (checking.Refused number) = refused number
+checkAnswer (checking.Refused refusal) = refused (numberOf refusal)

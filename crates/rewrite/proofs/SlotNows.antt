@@ -8,7 +8,7 @@ use lib.Seq.{paste, length-paste, take-at, drop-at, length-take-le, getD-take, g
 use Rattle.pktree.specs.Elements.{size}
 use Rattle.measures.specs.Slot.{levelWord, codeWord, countWord}
 use Rattle.store.specs.Splice.{elementsIn, CanSplice, Spliced, withHeader}
-use Rattle.store.specs.Placed.{Placed, forestOf}
+use Rattle.store.specs.Placed.{Placed}
 use Rattle.store.proofs.Standing.{elementWords, SlotSays}
 use Rattle.store.proofs.PlacedJoin.{length-element-words}
 use Rattle.store.proofs.Emptied.{header-says}
@@ -26,7 +26,7 @@ says-now {es = es} s = record {
 -- and one that says these words says the elements
 pub now-says : {part : List ℕ} {level code : ℕ} {es : Placed} → SlotNow part level code (elementWords es) → SlotSays part level code es
 now-says {part} {es = es} s =
-    let count : countWord part ≡ size (forestOf es) = omega (arith, s .count-is, length-element-words es) in
+    let count : countWord part ≡ size es = omega (arith, s .count-is, length-element-words es) in
     record { level-is = s .level-is; code-is = s .code-is; count-is = count; elements-are = rw (← count) (s .elements-are) }
 
 -- the elements that a slot has room for are all there

@@ -4,6 +4,7 @@ use mathlib.Core.Path.{_≡_}
 use mathlib.Core.List.{List, [], _∷_, _++_}
 use lib.ListN.{length, getD, take, drop, set}
 use lib.Seq.{paste}
+use Rattle.store.specs.Element.{tagSlots}
 use Rattle.measures.specs.declared.sizes.Layout.{Layout}
 use Rattle.measures.specs.Layout.{LayoutFits}
 use Rattle.measures.specs.Slot.{slotPart, levelWord, codeWord, countWord, nextWord, OnlySlot}
@@ -53,7 +54,7 @@ pub record CanLayBeside (part : List ℕ) (slot level first size : ℕ) (scratch
 
 -- the two words of a block's element
 abbrev pub blockWords : ℕ → ℕ → ℕ → List ℕ
-blockWords slot level code = code ∷ (1 + slot + level * 1048576) ∷ []
+blockWords slot level code = code ∷ (1 + slot + level * tagSlots) ∷ []
 
 -- the words of the run, and those around it with one element in its place
 abbrev pub runWords : List ℕ → ℕ → ℕ → List ℕ

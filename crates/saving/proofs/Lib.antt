@@ -1,8 +1,6 @@
 pub mod EntryWrites
-pub mod SavedTo
-pub mod SavedBlock
+pub mod Saves
 pub mod SavedImage
-pub mod TalliedTo
-pub mod TallyAnswers
+pub mod Tallies
 pub mod SaidNumbers
 pub mod SaveAnswers

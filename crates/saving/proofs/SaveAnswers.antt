@@ -1,9 +1,10 @@
 -- What each way out of save shows, from the numbers of pixels and blocks and a walk from the root.
 use Prim.Native.Nat.{ℕ, _+_, _*_, _≤_, _<_}
 use native.Mathlib.Omega.{arith}
-use mathlib.Core.Path.{_≡_, refl, subst₂, _∙_}
-use mathlib.Core.List.{List}
-use lib.ListN.{length, getD}
+use mathlib.Core.Path.{_≡_, refl, ap, ap₂, subst₂, _∙_}
+use mathlib.Core.List.{List, _++_, append-nil}
+use lib.ListN.{length, getD, take, drop, length-append, length-drop}
+use lib.Seq.{length-take-le, drop-at, drop-length}
 use Rattle.pktree.specs.Entries.{entries}
 use Rattle.pktree.specs.Image.{image}
 use Rattle.pktree.specs.Tree.{blocks}
@@ -14,29 +15,21 @@ use Rattle.measures.specs.declared.sizes.Layout.{Layout}
 use Rattle.measures.specs.Layout.{LaidOut}
 use Rattle.store.specs.Opening.{CannotOpen}
 use Rattle.measures.specs.Sizes.{panelOf, slotWidth, UsableStore, sizesOf}
-use Rattle.measures.proofs.Usable.{sizes-valid, layout-said, layout-fits}
+use Rattle.measures.proofs.Usable.{layout-fits}
 use Rattle.store.specs.Sound.{Holds}
 use Rattle.saving.specs.declared.numbers.Numbers.{Numbers}
 use Rattle.saving.specs.declared.numbers.Numbers.the-variants.{Said, Damaged}
-use Rattle.saving.specs.declared.Saved.{Saved}
-use Rattle.saving.specs.declared.Saved.the-variants as variants
 use Rattle.saving.specs.declared.Imaged.the-variants.{Whole, TooShort, Unreadable}
 use Rattle.saving.specs.Numbers.{NumbersAnswer}
-use Rattle.saving.specs.Saving.{CanSave, EntriesPut, HeaderPut, SaveMeets, mostBytes, SaveAnswer}
+use Rattle.saving.specs.Saving.{putEntries, CanSave, HeaderPut, ImageWritten, FrontWritten, mostBytes, SaveAnswer}
 use Rattle.saving.proofs.EntryWrites.{length-headed}
-use Rattle.saving.proofs.SavedImage.{heldTree, entries-counted, rootSaving, root-saved, image-put}
+use Rattle.saving.proofs.SavedImage.{entries-counted, image-put}
+use Rattle.walks.proofs.RootWalk.{heldTree, root-walked}
 
 -- the walk may start at the root
 pub can-save : {words output : List ℕ} {sizes : Sizes} {layout : Layout} {e : ℕ} → UsableStore words → sizes ≡ sizesOf words → LaidOut sizes layout → 10 + 5 * e ≤ length output
-    → CanSave (record { layout = layout; entries = e }) words 0 (sizes .order) output 0
-can-save usable said laid long =
-    record {
-      fits = layout-fits _ _ _ usable said laid;
-      slot-below = laid .within .slots-from;
-      level-to = sizes-valid usable said .panel .order-to;
-      long = long;
-      at-to = omega arith;
-    }
+    → CanSave (record { layout = layout; entries = e }) words 17 output
+can-save usable said laid long = record { fits = layout-fits _ _ _ usable said laid; above-to = omega arith; long = long }
 
 module _ {words : List ℕ} {told : Numbers} (answer : NumbersAnswer words told) where
   -- a sound store says its numbers
@@ -46,6 +39,7 @@ module _ {words : List ℕ} {told : Numbers} (answer : NumbersAnswer words told)
         bounds = tt;
         sound = λ set holds. zero-is-not-one (cc (answer .sound set holds));
         short = λ needed f. zero-is-not-one (cc);
+        rest = λ needed f. refl;
         long = refl;
         closed = λ shut. refl;
       }
@@ -76,61 +70,64 @@ module _ {words : List ℕ} {told : Numbers} (answer : NumbersAnswer words told)
           bounds = few-bytes;
           sound = λ set holds. (numbers holds .2, h, refl);
           short = λ needed f. let e : 10 + 5 * (found + opened) ≡ needed = cc in (refl, rw e at h);
+          rest = λ needed f. refl;
           long = refl;
           closed = λ shut. absurd (not-closed shut);
         }
 
-    module _ {sizes : Sizes} {layout : Layout} {before headed after : List ℕ} {r : Saved} (said : sizes ≡ sizesOf words) (laid : LaidOut sizes layout)
-        (room : 10 + 5 * (found + opened) ≤ length before) (head : HeaderPut before (sizes .order) (sizes .k) (n + m) n headed)
-        (walk : SaveMeets (record { layout = layout; entries = found + opened }) words 0 (sizes .order) 0 headed after 0 r) where
+    module _ {sizes : Sizes} {before after : List ℕ} {r : ℕ} (said : sizes ≡ sizesOf words) (room : 10 + 5 * (found + opened) ≤ length before)
+        (front : FrontWritten sizes n m (10 + 5 * (found + opened)) words before after r) where
+      abbrev w : ImageWritten sizes n m words (take (10 + 5 * (found + opened)) before) (front .part) r
+      w = front .written
+
       -- the walk writes all entries of a sound store
-      all-put : {set : List ℕ} → Holds words set → EntriesPut (rootSaving words (found + opened)) (heldTree words set) headed after 0 r
-      all-put holds =
-          root-saved holds (numbers holds .1)
-          (subst₂ (λ (l : Layout) (s : Sizes). SaveMeets (record { layout = l; entries = found + opened }) words 0 (s .order) 0 headed after 0 r)
-          (layout-said words said laid) said walk)
+      all-put : {set : List ℕ} → Holds words set → (r ≡ found + opened) × (front .part ≡ putEntries (n + m) 0 (w .headed) (entries (heldTree words set)))
+      all-put holds = let p = root-walked said (w .laid) (w .walk .right) holds .says (omega (arith, numbers holds .1)) in (omega (arith, p .0, numbers holds .1), p .1)
 
       -- neither the header nor the walk changes the length
+      part-long : length (front .part) ≡ 10 + 5 * (found + opened)
+      part-long = w .walk .long ∙ length-headed (w .head) (omega (arith, length-take-le (10 + 5 * (found + opened)) before room)) ∙ length-take-le (10 + 5 * (found + opened)) before room
+
       same-length : length after ≡ length before
-      same-length = walk .long ∙ length-headed head (omega arith)
+      same-length =
+          let rest : List ℕ = drop (10 + 5 * (found + opened)) before in
+          ap length (front .is) ∙ omega (arith, length-append (front .part) rest, length-drop (10 + 5 * (found + opened)) before, part-long)
 
-      -- so it does not answer that the store is damaged
-      pub no-walk : r ≡ variants.Damaged → SaveAnswer words before after Unreadable
-      no-walk e =
+      -- so it does not end elsewhere
+      pub not-all : (r ≡ found + opened → ⊥) → SaveAnswer words before after Unreadable
+      not-all h =
           record {
             bounds = tt;
-            sound = λ set holds. zero-is-not-one (cc (all-put holds .answer));
+            sound = λ set holds. absurd (h (all-put holds .0));
             short = λ needed f. zero-is-not-one (cc);
-            long = same-length;
-            closed = λ shut. refl;
-          }
-
-      -- nor does it end before all are written
-      pub too-few : {end : ℕ} → r ≡ variants.Next end → end < found + opened → SaveAnswer words before after Unreadable
-      too-few {end} e h =
-          record {
-            bounds = tt;
-            sound = λ set holds.
-                let all : end ≡ 0 + length (entries (heldTree words set)) = cc (all-put holds .answer) in
-                absurd (omega (arith, numbers holds .1));
-            short = λ needed f. zero-is-not-one (cc);
+            rest = λ needed f. zero-is-not-one (cc);
             long = same-length;
             closed = λ shut. refl;
           }
 
       -- header and entries are the image
+      part-is : {set : List ℕ} → Holds words set → front .part ≡ image (panelOf (sizesOf words)) set
+      part-is {set} holds =
+          let bytes : List ℕ = image (panelOf (sizesOf words)) set in
+          let l : List ℕ = take (10 + 5 * (found + opened)) before in
+          let long : length l ≡ 10 + 5 * (found + opened) = length-take-le (10 + 5 * (found + opened)) before room in
+          let full : length bytes ≡ length l = omega (arith, numbers holds .2) in
+          image-put (panelOf (sizesOf words)) set l (w .headed) (front .part) (n + m) (omega (arith, numbers holds .1)) (omega arith) (subst₂ (λ (z : Sizes) (i : ℕ). HeaderPut l (z .order) (z .k) (n + m) i (w .headed)) said (numbers holds .0) (w .head)) (all-put holds .1)
+          ∙ ap (λ (i : ℕ). bytes ++ drop i l) full ∙ ap (λ (b : List ℕ). bytes ++ b) (drop-length l) ∙ append-nil bytes
+
       pub all-written : SaveAnswer words before after (Whole (10 + 5 * (found + opened)))
       all-written =
-          let sum : n + m ≡ found + opened = omega arith in
           record {
             bounds = (few-bytes, room);
             sound = λ set holds. (
               numbers holds .2,
               room,
-              image-put (panelOf (sizesOf words)) set before headed after (found + opened) (numbers holds .1) room
-                  (rw (said, sum, numbers holds .0) at head) (all-put holds .output),
+              front .is ∙ ap₂ (λ (p : List ℕ) (i : ℕ). p ++ drop i before) (part-is holds) (numbers holds .2),
             );
             short = λ needed f. zero-is-not-one (cc);
+            rest = λ needed f.
+                let e : 10 + 5 * (found + opened) ≡ needed = cc in
+                rw (← e) (ap (drop (10 + 5 * (found + opened))) (front .is) ∙ drop-at (front .part) (drop (10 + 5 * (found + opened)) before) (10 + 5 * (found + opened)) part-long);
             long = same-length;
             closed = λ shut. absurd (not-closed shut);
           }

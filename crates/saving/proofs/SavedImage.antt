@@ -1,32 +1,24 @@
 -- What save writes of a sound store: as many entries as it has pixels and blocks, and their bytes are the image.
 use Prim.Native.Nat.{ℕ, _+_, _*_, _≤_}
 use native.Mathlib.Omega.{arith}
-use mathlib.Core.Path.{_≡_, refl, ap, ap₂, subst, sym, _∙_}
+use mathlib.Core.Path.{_≡_, refl, ap, ap₂, sym, _∙_}
 use mathlib.Core.List.{List, _++_, append-assoc}
-use lib.ListN.{length, getD, drop, length-drop}
+use lib.ListN.{length, drop, length-drop}
 use lib.Seq.{drop-drop}
 use Rattle.pktree.specs.Panel.{Panel}
 use Rattle.pktree.specs.PixelSet.{member}
-use Rattle.pktree.specs.Elements.{Forest, empty, block}
 use Rattle.pktree.specs.Tree.{tree, blocks, pixels}
 use Rattle.pktree.specs.Entries.{Entry, entries}
 use Rattle.pktree.specs.Image.{codeBytes, levelBytes, header, image}
 use Rattle.pktree.proofs.EntryOrder.{number-of-entries}
 use Rattle.pktree.proofs.Images.{image-length}
-use Rattle.measures.specs.Layout.{layoutOf}
+use Rattle.pktree.proofs.Unlabelled.{pixels-unlabelled}
 use Rattle.store.specs.Placed.{forestOf}
 use Rattle.measures.specs.Sizes.{panelOf, sizesOf}
 use Rattle.store.specs.Sound.{Holds}
-use Rattle.store.proofs.BlockView.{root-view}
-use Rattle.store.proofs.SoundView.{sound-view}
-use Rattle.saving.specs.declared.Saving.{Saving}
-use Rattle.saving.specs.declared.Saved.{Saved}
-use Rattle.saving.specs.Saving.{putEntries, EntriesPut, SaveMeets, HeaderPut}
+use Rattle.walks.proofs.RootWalk.{heldTree}
+use Rattle.saving.specs.Saving.{putEntries, HeaderPut}
 use Rattle.saving.proofs.EntryWrites.{all-entries-land}
-
--- the tree of the set that a store holds
-abbrev pub heldTree : List ℕ → List ℕ → Forest
-heldTree words set = tree (panelOf (sizesOf words)) (member set)
 
 -- a sound store holds the tree of its own pixels
 pub tree-of-held : {words set : List ℕ} (holds : Holds words set) → forestOf (holds .placed) ≡ heldTree words set
@@ -34,24 +26,11 @@ tree-of-held {words} holds = holds .sound .is-tree ∙ ap (λ (l : List ℕ). tr
 
 -- whose pixels are the set
 pixels-of-held : {words set : List ℕ} → Holds words set → pixels (heldTree words set) ≡ set
-pixels-of-held holds = ap pixels (sym (tree-of-held holds)) ∙ holds .set-is
+pixels-of-held holds = ap pixels (sym (tree-of-held holds)) ∙ pixels-unlabelled (holds .placed) ∙ holds .set-is
 
 -- 01: e is the number of pixels and of blocks
 pub entries-counted : {words set : List ℕ} → Holds words set → length set + length (blocks (heldTree words set)) ≡ length (entries (heldTree words set))
 entries-counted {words} {set} holds = omega (arith, number-of-entries (heldTree words set), ap length (pixels-of-held holds))
-
--- what the walk starts with at the root
-abbrev pub rootSaving : List ℕ → ℕ → Saving
-rootSaving words e = record { layout = layoutOf (sizesOf words); entries = e }
-
--- the walk from the root writes every entry
-pub root-saved : {words set headed after : List ℕ} {e : ℕ} {r : Saved} → Holds words set → e ≡ length (entries (heldTree words set))
-    → SaveMeets (rootSaving words e) words 0 (getD words 1 0) 0 headed after 0 r → EntriesPut (rootSaving words e) (heldTree words set) headed after 0 r
-root-saved {words} {set} {headed} {after} {e} {r} holds all meets =
-    let (es, v) = sound-view words (holds .placed) (holds .sound) in
-    let is : block (getD words 1 0) 0 (forestOf es) empty ≡ heldTree words set = sym (ap forestOf (v .is)) ∙ tree-of-held holds in
-    subst (λ (f : Forest). EntriesPut (rootSaving words e) f headed after 0 r) is
-    (meets .right (getD words 2 0) es (root-view words (holds .placed) es (holds .sound) v) (omega (arith, ap (λ (f : Forest). length (entries f)) is)))
 
 -- the bytes after the header and all entries
 pub image-put : (panel : Panel) (set before headed after : List ℕ) (e : ℕ) → e ≡ length (entries (tree panel (member set))) → 10 + 5 * e ≤ length before

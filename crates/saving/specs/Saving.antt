@@ -2,22 +2,19 @@
 use Prim.Native.Nat.{ℕ, suc, _+_, _*_, _≤_, _<_}
 use mathlib.Core.Path.{_≡_}
 use mathlib.Core.List.{List, [], _∷_, _++_}
-use lib.ListN.{length, getD, drop, set}
+use lib.ListN.{length, getD, take, drop, set}
 use lib.Seq.{sets}
-use Rattle.pktree.specs.Elements.{Forest, empty, pixel, block}
+use Rattle.pktree.specs.Elements.{Forest}
 use Rattle.pktree.specs.Entries.{Entry, entries}
 use Rattle.pktree.specs.Image.{fourBytes, image}
-use Rattle.store.specs.Placed.{Placed, forestOf}
 use Rattle.measures.specs.Sizes.{panelOf, slotWidth, slotCount, sizesOf}
 use Rattle.store.specs.Sound.{Holds}
 use Rattle.store.specs.Opening.{CannotOpen}
-use Rattle.measures.specs.Layout.{LayoutFits}
-use Rattle.store.proofs.BlockView.{BlockView, ChildView}
-use Rattle.store.specs.declared.elements.Element.{Element}
-use Rattle.store.specs.declared.elements.Element.the-variants.{Pixel, Block}
+use Rattle.measures.specs.declared.sizes.Sizes.{Sizes}
+use Rattle.measures.specs.declared.sizes.Layout.{Layout}
+use Rattle.measures.specs.Layout.{LayoutFits, LaidOut}
+use Rattle.walks.proofs.Walks.{BlockWalked}
 use Rattle.saving.specs.declared.Saving.{Saving}
-use Rattle.saving.specs.declared.Saved.{Saved}
-use Rattle.saving.specs.declared.Saved.the-variants.{Next, Damaged}
 use Rattle.saving.specs.declared.Imaged.{Imaged}
 use Rattle.saving.specs.declared.Imaged.the-variants.{Whole, TooShort, Unreadable}
 
@@ -33,50 +30,43 @@ abbrev pub putEntries : ℕ → ℕ → List ℕ → List Entry → List ℕ
 putEntries n at output [] = output
 putEntries n at output (e ∷ es) = putEntries n (suc at) (putEntry n at output (e .level) (e .code)) es
 
-pub record CanSave (saving : Saving) (words : List ℕ) (slot level : ℕ) (output : List ℕ) (at : ℕ) : Type 0 where
+pub record CanSave (saving : Saving) (words : List ℕ) (above : ℕ) (output : List ℕ) : Type 0 where
   pub fits : LayoutFits (saving .layout) words
-  pub slot-below : slot < saving .layout .slots
-  pub level-to : level ≤ 16
+  pub above-to : above ≤ 17
   pub long : 10 + 5 * saving .entries ≤ length output
-  pub at-to : at ≤ saving .entries
 
-abbrev pub SaveBounds : Saving → Saved → Type 0
-SaveBounds saving (Next at) = at ≤ saving .entries
-SaveBounds saving Damaged = Unit {0}
-
--- a pixel's entry is written, or has no room
-abbrev pub PixelPut : ℕ → ℕ → List ℕ → List ℕ → ℕ → Saved → Type 0
-PixelPut n code before after at (Next next) = (at < n) × (next ≡ at + 1) × (after ≡ putEntry n at before 0 code)
-PixelPut n code before after at Damaged = (n ≤ at) × (after ≡ before)
-
--- the entries of these elements are written from index `at` on
-pub record EntriesPut (saving : Saving) (f : Forest) (before after : List ℕ) (at : ℕ) (r : Saved) : Type 0 where
-  pub answer : r ≡ Next (at + length (entries f))
-  pub output : after ≡ putEntries (saving .entries) at before (entries f)
-
-pub record SaveMeets (saving : Saving) (words : List ℕ) (slot level code : ℕ) (before after : List ℕ) (at : ℕ) (r : Saved) : Type 0 where
-  pub bounds : SaveBounds saving r
+-- a pixel's entry is written, where it has room
+pub record PixelPut (n code : ℕ) (before after : List ℕ) (at r : ℕ) : Type 0 where
   pub long : length after ≡ length before
-  pub right : (k : ℕ) (es : Placed) → BlockView k (saving .layout .width) (saving .layout .slots) words slot level code es
-      → at + length (entries (block level code (forestOf es) empty)) ≤ saving .entries
-      → EntriesPut saving (block level code (forestOf es) empty) before after at r
-  pub closed : CannotOpen (saving .layout .width) words slot level code → r ≡ Damaged
+  pub put : at < n → (r ≡ at + 1) × (after ≡ putEntry n at before 0 code)
 
-abbrev pub SaveElementRight : Saving → List ℕ → Element → ℕ → List ℕ → List ℕ → ℕ → Saved → Type 0
-SaveElementRight saving words (Pixel c) level before after at r =
-    at + 1 ≤ saving .entries → EntriesPut saving (pixel c empty) before after at r
-SaveElementRight saving words (Block s i c) level before after at r =
-    (k code : ℕ) (fs : Placed) → ChildView k (saving .layout .width) (saving .layout .slots) words level code s i c fs
-    → at + length (entries (block i c (forestOf fs) empty)) ≤ saving .entries → EntriesPut saving (block i c (forestOf fs) empty) before after at r
+-- from index `s .1` on the entries of these elements are written, where they have room
+pub record EntriesPut (saving : Saving) (s : List ℕ × ℕ) (f : Forest) (t : List ℕ × ℕ) : Type 0 where
+  pub says : s .1 + length (entries f) ≤ saving .entries
+      → (t .1 ≡ s .1 + length (entries f)) × (t .0 ≡ putEntries (saving .entries) (s .1) (s .0) (entries f))
 
-pub record SaveElementMeets (saving : Saving) (words : List ℕ) (element : Element) (level : ℕ) (before after : List ℕ) (at : ℕ) (r : Saved) : Type 0 where
-  pub bounds : SaveBounds saving r
+pub record SaveMeets (saving : Saving) (words : List ℕ) (above slot level code : ℕ) (before after : List ℕ) (at r : ℕ) : Type 0 where
+  pub right : BlockWalked (EntriesPut saving) (saving .layout) words above slot level code (before, at) (after, r)
   pub long : length after ≡ length before
-  pub right : SaveElementRight saving words element level before after at r
+  pub closed : CannotOpen (saving .layout .width) words slot level code → saving .entries < r
 
 -- the header in the first ten bytes
 pub record HeaderPut (before : List ℕ) (order k e n : ℕ) (after : List ℕ) : Type 0 where
   pub is : after ≡ (order ∷ k ∷ []) ++ (fourBytes e ++ (fourBytes n ++ drop 10 before))
+
+-- the header, and then a walk from the root
+pub record ImageWritten (sizes : Sizes) (pixels blocks : ℕ) (words before after : List ℕ) (r : ℕ) : Type 0 where
+  pub layout : Layout
+  pub laid : LaidOut sizes layout
+  pub headed : List ℕ
+  pub head : HeaderPut before (sizes .order) (sizes .k) (pixels + blocks) pixels headed
+  pub walk : SaveMeets (record { layout = layout; entries = pixels + blocks }) words 17 0 (sizes .order) 0 headed after 0 r
+
+-- so in the first n bytes; the rest is as it was
+pub record FrontWritten (sizes : Sizes) (pixels blocks n : ℕ) (words before after : List ℕ) (r : ℕ) : Type 0 where
+  pub part : List ℕ
+  pub written : ImageWritten sizes pixels blocks words (take n before) part r
+  pub is : after ≡ part ++ drop n before
 
 -- save's answer: the image, byte for byte, and the rest of the output as it was; or the needed length
 abbrev pub SaveCase : List ℕ → List ℕ → List ℕ → Imaged → Type 0
@@ -98,5 +88,7 @@ pub record SaveAnswer (words before after : List ℕ) (r : Imaged) : Type 0 wher
   pub bounds : SaveWithin words before r
   pub sound : (set : List ℕ) → Holds words set → SaveCase (image (panelOf (sizesOf words)) set) before after r
   pub short : (n : ℕ) → r ≡ TooShort n → (after ≡ before) × (length before < n)
+  -- no byte past the image's length is written
+  pub rest : (n : ℕ) → r ≡ Whole n → drop n after ≡ drop n before
   pub long : length after ≡ length before
   pub closed : CannotOpen (slotWidth (getD words 2 0)) words 0 (getD words 1 0) 0 → r ≡ Unreadable

@@ -2,20 +2,19 @@
 ghost use Prim.Native.Nat.{_+_, _*_, _≤_, _<_};
 ghost use mathlib.Core.Path.{_≡_};
 ghost use lib.ListN.{length};
-ghost use Rattle.saving.specs.Saving.{putFour, putEntry, PixelPut, CanSave, SaveMeets, SaveElementMeets, HeaderPut, SaveAnswer};
+ghost use Rattle.saving.specs.Saving.{putFour, putEntry, PixelPut, CanSave, SaveMeets, HeaderPut, ImageWritten, FrontWritten, SaveAnswer};
 ghost use Rattle.measures.specs.Sizes.{UsableStore, sizesOf};
-ghost use Rattle.store.specs.declared.elements.Element.the-variants.{Block};
 use crate::numbers::Numbers;
 use crate::numbers::read_numbers;
 use measures::sizes::Layout;
 use measures::sizes::Sizes;
 use measures::sizes::layout_of;
-use measures::slots::slot_part;
 use measures::slots::wide;
 use store::elements::Element;
 use store::elements::element_at;
 use store::opening::Opening;
-use store::opening::open_part;
+use walks::enter;
+use walks::part_of;
 
 pub mod numbers;
 
@@ -45,85 +44,53 @@ pub struct Saving {
     pub entries: usize,
 }
 
-pub enum Saved {
-    Next(usize),
-    Damaged,
-}
-
-// A pixel's entry, at level 0.
-fn save_pixel(output: &mut [u8], entries: usize, at: usize, code: u32) -> Saved
+// A pixel's entry, at level 0; past the last entry where it has no room, which only damaged words bring about.
+fn save_pixel(output: &mut [u8], entries: usize, at: usize, code: u32) -> usize
     requires { ⌜ 10 + 5 * entries ≤ length (now output) ⌝ }
     ensures { λ r. ⌜ PixelPut entries code (now (output .entry)) (now (output .exit)) at r ⌝ }
 {
     if entries <= at {
-        return Saved::Damaged;
+        return entries + 1;
     }
     put_entry(output, entries, at, 0, code);
-    Saved::Next(at + 1)
+    at + 1
 }
 
-// The entries of the block in this slot, from index `at` on: its own, then those of its elements.
+// The entries of the block in this slot, an element of a block of level `above`, from index `at` on: its own, then those of its elements.
 fn save_block(
     store: &[u32],
     saving: Saving,
-    slot: usize,
+    above: u32,
+    slot: u32,
     level: u32,
     code: u32,
     output: &mut [u8],
     at: usize,
-) -> Saved
-    requires { ⌜ CanSave saving (now store) slot level (now output) at ⌝ }
-    ensures { λ r. ⌜ SaveMeets saving (now (store .entry)) slot level code (now (output .entry)) (now (output .exit)) at r ⌝ }
+) -> usize
+    requires { ⌜ CanSave saving (now store) above (now output) ⌝ }
+    ensures { λ r. ⌜ SaveMeets saving (now (store .entry)) above slot level code (now (output .entry)) (now (output .exit)) at r ⌝ }
 {
     let entries = saving.entries;
     if entries <= at {
-        return Saved::Damaged;
+        return entries + 1;
     }
-    let part = slot_part(store, saving.layout, slot);
-    let Opening::Elements(count) = open_part(part, level, code) else {
-        return Saved::Damaged;
+    let Opening::Elements(count) = enter(store, saving.layout, above, slot, level, code) else {
+        return entries + 1;
     };
+    let part = part_of(store, saving.layout, slot);
     put_entry(output, entries, at, level, code);
     let mut next = at + 1;
     for i in 0..count {
-        let saved = match element_at(part, i) {
-            Element::Pixel(pixel) => save_pixel(output, entries, next, pixel),
+        match element_at(part, i) {
+            Element::Pixel(pixel) => next = save_pixel(output, entries, next, pixel),
             Element::Block {
                 slot: s,
                 level: inner,
                 code: c,
-            } => save_child(store, saving, level, s, inner, c, output, next),
-        };
-        let Saved::Next(n) = saved else {
-            return Saved::Damaged;
-        };
-        next = n;
+            } => next = save_block(store, saving, level, s, inner, c, output, next),
+        }
     }
-    Saved::Next(next)
-}
-
-// The block that an element of a block of this level names: a lower one, in a slot that there is.
-fn save_child(
-    store: &[u32],
-    saving: Saving,
-    level: u32,
-    slot: u32,
-    inner: u32,
-    code: u32,
-    output: &mut [u8],
-    at: usize,
-) -> Saved
-    requires { ⌜ CanSave saving (now store) 0 level (now output) at ⌝ }
-    ensures { λ r. ⌜ SaveElementMeets saving (now (store .entry)) (Block slot inner code) level (now (output .entry)) (now (output .exit)) at r ⌝ }
-{
-    let layout = saving.layout;
-    if level <= inner {
-        return Saved::Damaged;
-    }
-    if layout.slots <= wide(slot) {
-        return Saved::Damaged;
-    }
-    save_block(store, saving, wide(slot), inner, code, output, at)
+    next
 }
 
 // The sizes at the head of an image.
@@ -135,6 +102,36 @@ fn put_header(output: &mut [u8], order: u32, k: u32, entries: u32, pixels: u32)
     output[1] = (k % 256) as u8;
     put_four(output, 2, entries);
     put_four(output, 6, pixels);
+}
+
+// The header and the entries, into an output of just the image's length; the index past the last entry.
+fn write_image(store: &[u32], sizes: Sizes, pixels: u32, blocks: u32, output: &mut [u8]) -> usize
+    requires { ⌜ UsableStore (now store) × (sizes ≡ sizesOf (now store)) ⌝ }
+    requires { ⌜ (10 + 5 * (pixels + blocks) ≤ length (now output)) × (pixels + blocks < 4294967296) ⌝ }
+    ensures { λ r. ⌜ ImageWritten sizes pixels blocks (now (store .entry)) (now (output .entry)) (now (output .exit)) r ⌝ }
+{
+    put_header(output, sizes.order, sizes.k, pixels + blocks, pixels);
+    let saving = Saving {
+        layout: layout_of(sizes),
+        entries: wide(pixels) + wide(blocks),
+    };
+    save_block(store, saving, 17, 0, sizes.order, 0, output, 0)
+}
+
+// Into the first n bytes; those past them are not lent.
+fn write_front(
+    store: &[u32],
+    sizes: Sizes,
+    pixels: u32,
+    blocks: u32,
+    output: &mut [u8],
+    n: usize,
+) -> usize
+    requires { ⌜ UsableStore (now store) × (sizes ≡ sizesOf (now store)) ⌝ }
+    requires { ⌜ ((10 + 5 * (pixels + blocks) ≤ n) × (n ≤ length (now output))) × (pixels + blocks < 4294967296) ⌝ }
+    ensures { λ r. ⌜ FrontWritten sizes pixels blocks n (now (store .entry)) (now (output .entry)) (now (output .exit)) r ⌝ }
+{
+    write_image(store, sizes, pixels, blocks, &mut output[..n])
 }
 
 pub enum Imaged {
@@ -156,15 +153,7 @@ pub fn save(store: &[u32], sizes: Sizes, output: &mut [u8]) -> Imaged
     if output.len() < needed {
         return Imaged::TooShort(needed);
     }
-    put_header(output, sizes.order, sizes.k, pixels + blocks, pixels);
-    let saving = Saving {
-        layout: layout_of(sizes),
-        entries,
-    };
-    let Saved::Next(end) = save_block(store, saving, 0, sizes.order, 0, output, 0) else {
-        return Imaged::Unreadable;
-    };
-    if end < entries {
+    if write_front(store, sizes, pixels, blocks, output, needed) != entries {
         return Imaged::Unreadable;
     }
     Imaged::Whole(needed)

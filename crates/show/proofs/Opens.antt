@@ -16,8 +16,10 @@ use Rattle.image.specs.Judged.{FitsRegister, ImageOfSome}
 use Rattle.loading.specs.Loaded.{HasImage}
 use Rattle.register.specs.declared.Outcome.{Outcome}
 use Rattle.register.specs.Answer.{Answer, answer}
-use Rattle.register.specs.Make.{MakeMeets}
-use Rattle.register.specs.Load.{LoadMeets}
+use Rattle.register.specs.Calls.{MakeMeets, LoadMeets}
+use Rattle.register.proofs.Ladder.{number-is, where-holds, where-fails}
+use Rattle.register.proofs.Makes.{accepted-makes, accepted-exactly}
+use Rattle.register.proofs.Loads.{image-loaded}
 use Rattle.show.specs.Shown.{sizesShown, LengthOut, ShowMeets}
 
 -- a test of all numbers below n holds of each
@@ -58,38 +60,38 @@ module _ (after bytes : List ℕ) where
   }
 
 module _ (before made bytes : List ℕ) (outcome : Outcome) (room : 7208 ≤ length before) (in-length : LengthOut bytes → ⊥)
-    (meets : MakeMeets before made (getD bytes 0 0) (getD bytes 1 0) 400 outcome) where
+    (meets : MakeMeets before made (getD bytes 0 0) (getD bytes 1 0) 400 (answer outcome)) where
   accepted : ValidSizes (sizesShown bytes) → answer outcome .refusal ≡ 0
-  accepted valid = meets .accepted .1 (valid, omega (arith, enough bytes valid))
+  accepted valid = accepted-exactly meets .1 (valid, omega (arith, enough bytes valid))
 
   pub not-made : (r : ℕ) → r ≡ answer outcome .refusal → (r ≡ 0 → ⊥) → ShowMeets made bytes r
   not-made r is other = record {
     out-of-length = λ o. absurd (in-length o);
-    beyond-limits = λ o v. is ∙ meets .beyond-limits .1 v;
+    beyond-limits = λ o v. is ∙ number-is (where-fails meets v);
     malformed = λ b w. absurd (other (is ∙ accepted (b .valid)));
     unlike = λ b w f. absurd (other (is ∙ accepted (b .valid)));
     no-set = λ b w f s. absurd (other (is ∙ accepted (b .valid)));
     loaded = λ set b h. absurd (other (is ∙ accepted (b .valid)));
   }
 
-  module _ (after : List ℕ) (loading : Outcome) (done : answer outcome .refusal ≡ 0) (loads : LoadMeets made after bytes loading) where
+  module _ (after : List ℕ) (loading : Outcome) (done : answer outcome .refusal ≡ 0) (loads : LoadMeets made after bytes (answer loading)) where
     usable : UsableStore made
-    usable = meets .made done .0 .sound .usable
+    usable = accepted-makes meets done .holds .sound .usable
 
     -- the sizes are those that make was given
     of-made : (P : Sizes → Type 0) → P (sizesShown bytes) → P (sizesOf made)
-    of-made P h = subst P (sym (meets .made done .1)) h
+    of-made P h = subst P (sym (accepted-makes meets done .sizes-are)) h
 
     pub made-loaded : (r : ℕ) → r ≡ answer loading .refusal → ShowMeets after bytes r
     made-loaded r is = record {
       out-of-length = λ o. absurd (in-length o);
-      beyond-limits = λ o v. absurd (v (subst ValidSizes (meets .made done .1) (usable .valid)));
-      malformed = λ b w. is ∙ loads .malformed .1 (usable, w);
-      unlike = λ b w f. is ∙ loads .unlike .1 (usable, w, of-made (λ s. FitsRegister (panelOf s) (s .most) bytes → ⊥) f);
+      beyond-limits = λ o v. absurd (v (subst ValidSizes (accepted-makes meets done .sizes-are) (usable .valid)));
+      malformed = λ b w. is ∙ number-is (where-fails (where-holds loads usable) w);
+      unlike = λ b w f. is ∙ number-is (where-fails (where-holds (where-holds loads usable) w) (of-made (λ s. FitsRegister (panelOf s) (s .most) bytes → ⊥) f));
       no-set = λ b w f s.
-          is ∙ loads .no-set .1
-          (usable, w, of-made (λ s. FitsRegister (panelOf s) (s .most) bytes) f, of-made (λ s. ImageOfSome (panelOf s) bytes → ⊥) s);
+          is ∙ number-is (where-fails (where-holds (where-holds (where-holds loads usable) w) (of-made (λ s. FitsRegister (panelOf s) (s .most) bytes) f))
+          (of-made (λ s. ImageOfSome (panelOf s) bytes → ⊥) s));
       loaded = λ set b h.
-          let d = loads .loaded set usable (of-made (λ s. HasImage (panelOf s) (s .most) bytes set) h) in
-          (is ∙ ap (λ (a : Answer). a .refusal) (d .0), d .1, d .2 ∙ meets .made done .1);
+          let d = image-loaded loads usable (of-made (λ s. HasImage (panelOf s) (s .most) bytes set) h) in
+          (is ∙ ap (λ (a : Answer). a .refusal) (d .done .done), d .holds, d .sizes-are ∙ accepted-makes meets done .sizes-are);
     }

@@ -9,7 +9,7 @@ use Rattle.measures.specs.Sizes.{panelOf, ValidSizes, sizesOf}
 use Rattle.store.specs.Sound.{Holds}
 use Rattle.image.specs.Judged.{WellFormed, FitsRegister, ImageOfSome}
 use Rattle.loading.specs.Loaded.{HasImage}
-use Rattle.register.specs.Make.{asked}
+use Rattle.register.specs.Calls.{asked}
 
 abbrev pub sizesShown : List ℕ → Sizes
 sizesShown bytes = asked (getD bytes 0 0) (getD bytes 1 0) 400

@@ -5,7 +5,7 @@ use mathlib.Core.Path.{_≡_, ap, subst, sym, _∙_}
 use mathlib.Core.List.{List}
 use Rattle.store.specs.declared.elements.Element.{Element}
 use Rattle.store.specs.Element.{elementAt}
-use Rattle.store.specs.Placed.{Placed, forestOf}
+use Rattle.store.specs.Placed.{Placed}
 use Rattle.soundness.specs.declared.pass.Pass.{Pass}
 use Rattle.soundness.specs.declared.pass.Passing.the-variants.{On, Refused}
 use Rattle.soundness.specs.declared.walk.Claim.{Claim}
@@ -25,7 +25,7 @@ oneSeen seen = record { blocks = seen .blocks + 1; pixels = seen .pixels }
 module _ {limits : Limits} {words : List ℕ} {claim : Claim} {seen : Seen} {count i : ℕ} {pass : Pass} {now : Seen}
     (o : BlockOpened limits words claim seen count) (w : WalkedTo limits words claim (oneSeen seen) i pass now) where
   -- what there is room for is the same, said of the block or of its elements
-  room-inside : (es : Placed) → WithinLimits limits (seenWith seen (claimed claim es)) → WithinLimits limits (seenWith (oneSeen seen) (forestOf es))
+  room-inside : (es : Placed) → WithinLimits limits (seenWith seen (claimed claim es)) → WithinLimits limits (seenWith (oneSeen seen) es)
   room-inside es room = subst (WithinLimits limits) (sym (seen-block seen claim es)) room
 
   block-ends : 1 ≤ claim .level → claim .code + 4 ^ suc (claim .level - 1) ≡ claim .code + 4 ^ claim .level

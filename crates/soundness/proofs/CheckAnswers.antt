@@ -7,16 +7,17 @@ use mathlib.Core.List.{List, append-nil}
 use lib.Dec.{eqb}
 use lib.ListN.{length, getD}
 use borrow.Author.Tests.{eqb-true, eqb-false}
+use Rattle.pktree.specs.Elements.{blockAt, empty}
 use Rattle.pktree.specs.Panel.{Panel}
 use Rattle.pktree.specs.Tree.{pixels}
 use Rattle.pktree.proofs.Forests.{blockCount}
 use Rattle.pktree.proofs.Arranged.{LocallyRight}
 use Rattle.pktree.proofs.LocalTest.{localTest}
-use Rattle.pktree.proofs.LocalLaw.{tree-exactly-local}
+use Rattle.pktree.proofs.Unlabelled.{labelled-tree}
 use Rattle.measures.specs.Decides.{Decides}
 use Rattle.measures.specs.Sizes.{panelOf, sizesOf, slotCount, slotWidth, UsableStore}
 use Rattle.measures.specs.Layout.{layoutOf}
-use Rattle.store.specs.Placed.{Placed, nothing, blockThen, forestOf, slotsOf}
+use Rattle.store.specs.Placed.{Placed, slotsOf}
 use Rattle.store.specs.FreeSlots.{noSlot}
 use Rattle.store.specs.Sound.{Sound}
 use Rattle.measures.proofs.Bounds.{slot-count-bounded}
@@ -49,12 +50,12 @@ module _ (words : List ℕ) where
   module _ {seen : Seen} {count : ℕ} (usable : UsableStore words) (w : BlockWalked (rootLimits words) words (rootClaim (sizesOf words)) noneSeen seen)
       (ends : ChainEnds (layoutOf (sizesOf words)) words count) where
     abbrev found : Placed
-    found = blockThen 0 (getD words 1 0) 0 (w .found) nothing
+    found = blockAt 0 (getD words 1 0) 0 (w .found) empty
 
-    blocks-seen : seen .blocks ≡ blockCount (forestOf found)
+    blocks-seen : seen .blocks ≡ blockCount found
     blocks-seen = omega (arith, ap (λ (s : Seen). s .blocks) (w .now-is))
 
-    pixels-seen : seen .pixels ≡ length (pixels (forestOf found))
+    pixels-seen : seen .pixels ≡ length (pixels found)
     pixels-seen = omega (arith, ap (λ (s : Seen). s .pixels) (w .now-is))
 
     few-slots : slotCount (getD words 2 0) (getD words 3 0) ≤ noSlot
@@ -66,7 +67,7 @@ module _ (words : List ℕ) where
         let r = sound-root words (h .placed) (h .sound) in
         let e : r .es ≡ w .found = one-reading (slotWidth (getD words 2 0)) words 0 (getD words 1 0) 0 (getD words 1 0) 0 (r .es) (w .found)
         (r .at .says) (r .at .elements .stands) (w .at .says) (w .at .elements .stands) in
-        let p : h .placed ≡ found = r .is ∙ ap (λ (t : Placed). blockThen 0 (getD words 1 0) 0 t nothing) e in
+        let p : h .placed ≡ found = r .is ∙ ap (λ (t : Placed). blockAt 0 (getD words 1 0) 0 t empty) e in
         let f = free-of (h .placed) (h .sound) in
         let l : h .sound .free ≡ ends .free = one-chain (slotWidth (getD words 2 0)) words (slotCount (getD words 2 0) (getD words 3 0)) few-slots (getD words 7 0)
         (h .sound .free) (ends .free) (f .inside) (ends .is .inside) (f .chain) (ends .is .chain) in (
@@ -74,12 +75,12 @@ module _ (words : List ℕ) where
             arith,
             blocks-seen,
             slots-are-blocks (h .placed),
-            ap (λ (t : Placed). blockCount (forestOf t)) p,
+            ap blockCount p,
             ap length l,
             ends .many,
             shared-length (h .sound .shared),
           ),
-          h .sound .counted ∙ ap (λ (t : Placed). length (pixels (forestOf t))) p ∙ sym pixels-seen,
+          h .sound .counted ∙ ap (λ (t : Placed). length (pixels t)) p ∙ sym pixels-seen,
         )
 
     -- where they agree, the store is sound
@@ -91,9 +92,9 @@ module _ (words : List ℕ) where
         let valid = usable .valid .panel in
         let b = w .at in
         let es : Placed = w .found in
-        let tested : localTest k (order - 1) 0 (forestOf es) ≡ true = rw (b .passes, b .elements .right) in
-        let right : LocallyRight k order 0 (forestOf es) = tested-exactly k order 0 (forestOf es) (valid .order-from) (omega (arith, valid .k-from)) .0 tested in
-        let deep : depth (forestOf es) < order = depth-below-level k order 0 (0 + 4 ^ order) (forestOf es) (valid .order-from) (right .arranged) in
+        let tested : localTest k (order - 1) 0 es ≡ true = rw (b .passes, b .elements .right) in
+        let right : LocallyRight k order 0 es = tested-exactly k order 0 es (valid .order-from) (omega (arith, valid .k-from)) .0 tested in
+        let deep : depth es < order = depth-below-level k order 0 (0 + 4 ^ order) es (valid .order-from) (right .arranged) in
         let level : suc (order - 1) ≡ order = omega (arith, valid .order-from) in
         let read = complete-slot (slotWidth k) words (order - 1) 0 order 0 es (b .says) (b .elements .stands) (omega arith) in
         record {
@@ -101,7 +102,7 @@ module _ (words : List ℕ) where
           sound = record {
             usable = usable;
             reads = rw level at read;
-            is-tree = tree-exactly-local panel (forestOf found) (valid .k-from) .1 (forestOf es, refl, right);
+            is-tree = labelled-tree panel 0 es (valid .k-from) right;
             fits = omega (arith, pixels-seen, w .within .pixels-to);
             free = ends .free;
             chain = ends .is .chain;

@@ -4,9 +4,10 @@ use native.Mathlib.Omega.{arith}
 use native.Mathlib.Nat.{add-zero}
 use mathlib.Core.Path.{_≡_, refl, subst, sym}
 use mathlib.Core.List.{List}
+use Rattle.pktree.specs.Elements.{blockAt, empty, pixel}
 use Rattle.store.specs.declared.elements.Element.{Element}
 use Rattle.store.specs.declared.elements.Element.the-variants.{Pixel, Block}
-use Rattle.store.specs.Placed.{Placed, nothing, pixelThen, blockThen, forestOf}
+use Rattle.store.specs.Placed.{Placed}
 use Rattle.soundness.specs.declared.walk.Limits.{Limits}
 use Rattle.soundness.specs.declared.walk.Seen.{Seen}
 use Rattle.soundness.specs.declared.walk.Walked.{Walked}
@@ -23,8 +24,8 @@ module _ {limits : Limits} {words : List ℕ} {element : Element} {level : ℕ} 
   pixel-walked {c} r e p = element-as (Pixel c) r e (go r p)
     where
       go : (r : Walked) → PixelMeets limits seen r → WalkElementMeets limits words (Pixel c) seen r
-      go (Whole now) p = record { found = pixelThen c nothing; names = refl; at = right-pixel c; now-is = rw (p .0, add-zero); within = p .1 }
-      go Broken p = λ t n right room. let z : t ≡ pixelThen c nothing = n in omega (arith, (rw z at room) .pixels-to)
+      go (Whole now) p = record { found = pixel c empty; names = refl; at = right-pixel c; now-is = rw (p .0, add-zero); within = p .1 }
+      go Broken p = λ t n right room. let z : t ≡ pixel c empty = n in omega (arith, (rw z at room) .pixels-to)
 
   module _ {s i c : ℕ} (e : element ≡ Block s i c) where
     pub level-zero : i < 1 → WalkElementMeets limits words element seen Broken
@@ -43,7 +44,7 @@ module _ {limits : Limits} {words : List ℕ} {element : Element} {level : ℕ} 
         go : (r : Walked) → WalkMeets limits words (child limits s i c) seen r → WalkElementMeets limits words (Block s i c) seen r
         go (Whole now) h =
             record {
-              found = blockThen s i c (h .found) nothing;
+              found = blockAt s i c (h .found) empty;
               names = (h .found, refl);
               at = block-right s i c (h .found) below (omega (arith, can .can .fits .within .slots-to)) low (h .at);
               now-is = h .now-is;
@@ -51,4 +52,4 @@ module _ {limits : Limits} {words : List ℕ} {element : Element} {level : ℕ} 
             }
         go Broken h = λ t n right room.
             let b = right-block s i c (n .0) (subst (StandsRight limits words) (n .1) right) in
-            h (n .0) (b .2) (subst (λ (u : Placed). WithinLimits limits (seenWith seen (forestOf u))) (n .1) room)
+            h (n .0) (b .2) (subst (λ (u : Placed). WithinLimits limits (seenWith seen u)) (n .1) room)

@@ -4,10 +4,11 @@ use native.Mathlib.Omega.{arith}
 use native.Mathlib.Decide.{ℕ-discrete, decLe}
 use mathlib.Core.Path.{_≡_}
 use mathlib.Core.List.{List, [], _∷_, _++_}
+use Rattle.pktree.specs.Elements.{blockAt, empty}
 use Rattle.pktree.specs.Lists.{Every}
 use Rattle.pktree.proofs.Arranged.{Arranged}
 use Rattle.measures.specs.Slot.{slotPart, levelWord}
-use Rattle.store.specs.Placed.{Placed, nothing, blockThen, forestOf, slotsOf}
+use Rattle.store.specs.Placed.{Placed, slotsOf}
 use Rattle.store.specs.FreeSlots.{noSlot, FreeChain, occurrences}
 use Rattle.store.proofs.Standing.{SlotSays, Stands}
 use Rattle.store.proofs.FreeChains.{occurrences-same, occurrences-other, occurrences-join}
@@ -37,8 +38,8 @@ once-alone x s = go (ℕ-discrete s x)
     go (no ne) = omega (arith, occurrences-other x s [] ne)
 
 pub root-slots-once : (width : ℕ) (words : List ℕ) (k order code to slot slots first : ℕ) (es : Placed) (free : List ℕ) → 1 ≤ order → slots ≤ noSlot
-    → SlotSays (slotPart width words slot) order code es → Stands width words es → Arranged k order code to (forestOf es) → Every (λ s. s < slots) free
-    → FreeChain width words first free → (x : ℕ) → occurrences x (slotsOf (blockThen slot order code es nothing) ++ free) ≤ 1
+    → SlotSays (slotPart width words slot) order code es → Stands width words es → Arranged k order code to es → Every (λ s. s < slots) free
+    → FreeChain width words first free → (x : ℕ) → occurrences x (slotsOf (blockAt slot order code es empty) ++ free) ≤ 1
 root-slots-once width words k order code to slot slots first es free low few says stands arranged inside chain x =
     let sum = one-of-three (once-alone x slot) (tree-slots-once width words k order code to es x stands arranged)
     (chain-once width words slots few first free x inside chain) low

@@ -5,7 +5,7 @@ use mathlib.Core.Path.{_≡_, ap, subst₂}
 use mathlib.Core.Bool.{true}
 use mathlib.Core.List.{List, append-nil}
 use lib.ListN.{length, getD}
-use Rattle.pktree.specs.Elements.{Forest}
+use Rattle.pktree.specs.Elements.{ForestOf, blockAt, empty}
 use Rattle.pktree.specs.Tree.{pixels}
 use Rattle.pktree.proofs.Arranged.{LocallyRight}
 use Rattle.pktree.proofs.LocalTest.{heads, slotTest, insideTest, localTest, local-test-exact, both}
@@ -14,7 +14,7 @@ use Rattle.measures.specs.declared.sizes.Sizes.{Sizes}
 use Rattle.measures.specs.Sizes.{sizesOf, slotCount, UsableStore}
 use Rattle.measures.specs.Layout.{layoutOf, LaidOut}
 use Rattle.measures.proofs.Usable.{sizes-valid, layout-said, layout-fits}
-use Rattle.store.specs.Placed.{Placed, nothing, blockThen, forestOf}
+use Rattle.store.specs.Placed.{Placed}
 use Rattle.store.specs.Sound.{Sound}
 use Rattle.store.proofs.SoundView.{sound-view}
 use Rattle.soundness.specs.declared.walk.Claim.{Claim}
@@ -62,7 +62,7 @@ pub slots-of-words : {sizes : Sizes} {layout : Layout} (words : List ℕ) → si
 slots-of-words words said laid = ap (λ (l : Layout). l .slots) (layout-said words said laid)
 
 -- the test of a block of a level above 0
-pub tested-exactly : (k level code : ℕ) (es : Forest) → 1 ≤ level → 0 < k
+pub tested-exactly : {A : Type 0} (k level code : ℕ) (es : ForestOf A) → 1 ≤ level → 0 < k
     → ((localTest k (level - 1) code es ≡ true) → LocallyRight k level code es) × (LocallyRight k level code es → (localTest k (level - 1) code es ≡ true))
 tested-exactly k level code es low pos =
     let e : suc (level - 1) ≡ level = omega arith in
@@ -72,7 +72,7 @@ tested-exactly k level code es low pos =
 -- the root of a sound store is as claimed, and there is room for it
 pub record SoundRoot (words : List ℕ) (placed : Placed) : Type 0 where
   pub es : Placed
-  pub is : placed ≡ blockThen 0 (getD words 1 0) 0 es nothing
+  pub is : placed ≡ blockAt 0 (getD words 1 0) 0 es empty
   pub at : BlockAt (rootLimits words) words (rootClaim (sizesOf words)) es
   pub room : WithinLimits (rootLimits words) (seenWith noneSeen (claimed (rootClaim (sizesOf words)) es))
 
@@ -81,8 +81,8 @@ sound-root words placed sound =
     let (es, v) = sound-view words placed sound in
     let valid = sound .usable .valid .panel in
     let k : ℕ = getD words 2 0 in
-    let t = tested-exactly k (getD words 1 0) 0 (forestOf es) (valid .order-from) (omega (arith, valid .k-from)) .1 (v .right) in
-    let b = both (slotTest k (getD words 1 0 - 1) 0 (heads (forestOf es))) (insideTest k (forestOf es)) t in
+    let t = tested-exactly k (getD words 1 0) 0 es (valid .order-from) (omega (arith, valid .k-from)) .1 (v .right) in
+    let b = both (slotTest k (getD words 1 0 - 1) 0 (heads es)) (insideTest k es) t in
     record {
       es = es;
       is = v .is;
@@ -94,6 +94,6 @@ sound-root words placed sound =
       };
       room = record {
         blocks-to = omega (arith, v .few);
-        pixels-to = omega (arith, ap length (v .same-pixels), ap length (append-nil (pixels (forestOf es))), sound .fits);
+        pixels-to = omega (arith, ap length (v .same-pixels), ap length (append-nil (pixels es)), sound .fits);
       };
     }

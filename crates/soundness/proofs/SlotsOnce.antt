@@ -4,11 +4,12 @@ use native.Mathlib.Omega.{arith}
 use native.Mathlib.Decide.{ℕ-discrete, decLe}
 use mathlib.Core.Path.{_≡_, ap, sym, _∙_}
 use mathlib.Core.List.{List, [], _∷_, _++_}
+use Rattle.pktree.specs.Elements.{blockAt, empty, pixel}
 use Rattle.pktree.specs.Lists.{Every}
 use Rattle.pktree.proofs.Alignment.{pow-pos}
 use Rattle.pktree.proofs.Arranged.{Arranged, arranged-le}
 use Rattle.measures.specs.Slot.{slotPart, levelWord, codeWord, nextWord}
-use Rattle.store.specs.Placed.{Placed, nothing, pixelThen, blockThen, forestOf, slotsOf}
+use Rattle.store.specs.Placed.{Placed, slotsOf}
 use Rattle.store.specs.FreeSlots.{noSlot, FreeChain, occurrences}
 use Rattle.store.proofs.Standing.{Stands, every-join}
 use Rattle.store.proofs.FreeChains.{every-map, first-once, occurrences-same, occurrences-other, occurrences-join}
@@ -25,12 +26,12 @@ module _ (width : ℕ) (words : List ℕ) where
   wider : {n from to n′ from′ to′ s : ℕ} → n ≤ n′ → from′ ≤ from → to ≤ to′ → HeaderIn n from to s → HeaderIn n′ from′ to′ s
   wider p q r h = record { starts = omega (arith, h .starts); ends = omega (arith, h .ends); level-from = h .level-from; below = omega (arith, h .below) }
 
-  headers-in : (k n from to : ℕ) (t : Placed) → Stands width words t → Arranged k n from to (forestOf t) → Every (HeaderIn n from to) (slotsOf t)
-  headers-in k n from to nothing g a = tt
-  headers-in k n from to (pixelThen c t) g a =
+  headers-in : (k n from to : ℕ) (t : Placed) → Stands width words t → Arranged k n from to t → Every (HeaderIn n from to) (slotsOf t)
+  headers-in k n from to empty g a = tt
+  headers-in k n from to (pixel c t) g a =
       every-map _ _ (slotsOf t) (λ s h. wider (omega arith) (omega (arith, a .0)) (omega arith) h) (headers-in k n (suc c) to t g (a .1))
-  headers-in k n from to (blockThen s i c es t) g a =
-      let end : c + 4 ^ i ≤ to = arranged-le k n (c + 4 ^ i) to (forestOf t) (a .7) in
+  headers-in k n from to (blockAt s i c es t) g a =
+      let end : c + 4 ^ i ≤ to = arranged-le k n (c + 4 ^ i) to t (a .7) in
       let low : from ≤ c = a .0 in
       let level : i < n = a .1 in (
         record {
@@ -45,14 +46,14 @@ module _ (width : ℕ) (words : List ℕ) where
       )
 
   -- a slot of the tree has a level above 0 and below that of the block around it
-  pub tree-slot-level : (k n from to : ℕ) (t : Placed) (s : ℕ) → Stands width words t → Arranged k n from to (forestOf t) → 1 ≤ occurrences s (slotsOf t)
+  pub tree-slot-level : (k n from to : ℕ) (t : Placed) (s : ℕ) → Stands width words t → Arranged k n from to t → 1 ≤ occurrences s (slotsOf t)
       → (1 ≤ levelWord (slotPart width words s)) × (levelWord (slotPart width words s) < n)
   tree-slot-level k n from to t s g a p = let h = every-occurs _ s (slotsOf t) (headers-in k n from to t g a) p in (h .level-from, h .below)
 
-  pub tree-slots-once : (k n from to : ℕ) (t : Placed) (x : ℕ) → Stands width words t → Arranged k n from to (forestOf t) → occurrences x (slotsOf t) ≤ 1
-  tree-slots-once k n from to nothing x g a = omega arith
-  tree-slots-once k n from to (pixelThen c t) x g a = tree-slots-once k n (suc c) to t x g (a .1)
-  tree-slots-once k n from to (blockThen s i c es t) x g a =
+  pub tree-slots-once : (k n from to : ℕ) (t : Placed) (x : ℕ) → Stands width words t → Arranged k n from to t → occurrences x (slotsOf t) ≤ 1
+  tree-slots-once k n from to empty x g a = omega arith
+  tree-slots-once k n from to (pixel c t) x g a = tree-slots-once k n (suc c) to t x g (a .1)
+  tree-slots-once k n from to (blockAt s i c es t) x g a =
       go (ℕ-discrete s x)
       (apart (decLe 1 (occurrences x (slotsOf es))) (decLe 1 (occurrences x (slotsOf t))) (tree-slots-once k i c (c + 4 ^ i) es x (g .2) (a .6)) (tree-slots-once k n (c + 4 ^ i) to t x (g .3) (a .7)))
     where

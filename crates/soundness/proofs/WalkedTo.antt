@@ -7,14 +7,15 @@ use mathlib.Core.List.{List, [], _∷_, _++_, append-assoc}
 use lib.ListN.{length, getD, take, drop}
 use lib.Seq.{take-add, drop-cons, drop-drop}
 use Rattle.pktree.specs.Entries.{Entry, entry}
-use Rattle.pktree.specs.Elements.{Forest, empty, pixel, block, _⧺_, size}
+use Rattle.pktree.specs.Elements.{ForestOf, empty, pixel, _⧺_, size, blockAt}
 use Rattle.pktree.proofs.LocalTest.{heads, passTest, slotTest}
+use Rattle.pktree.proofs.Forests.{size-join}
 use Rattle.store.specs.declared.elements.Element.{Element}
 use Rattle.store.specs.Element.{elementAt}
 use Rattle.measures.specs.Slot.{slotPart, elementPart}
-use Rattle.store.specs.Placed.{Placed, nothing, _⧻_, forestOf}
+use Rattle.store.specs.Placed.{Placed}
 use Rattle.store.proofs.Standing.{elementWords}
-use Rattle.store.proofs.PlacedJoin.{forest-join, words-join, size-placed-join}
+use Rattle.store.proofs.PlacedJoin.{words-join}
 use Rattle.soundness.specs.declared.pass.Pass.{Pass}
 use Rattle.soundness.specs.declared.pass.Passing.the-variants.{On}
 use Rattle.soundness.specs.declared.walk.Claim.{Claim}
@@ -38,20 +39,16 @@ leftTest limits claim pass rest =
 -- the first i elements are read and right, and this is what the pass and the numbers have come to
 pub record WalkedTo (limits : Limits) (words : List ℕ) (claim : Claim) (first : Seen) (i : ℕ) (pass : Pass) (now : Seen) : Type 0 where
   pub past : Placed
-  pub many : size (forestOf past) ≡ i
-  pub names : take (2 * size (forestOf past)) (elementPart (partOf limits words claim)) ≡ elementWords past
+  pub many : size past ≡ i
+  pub names : take (2 * size past) (elementPart (partOf limits words claim)) ≡ elementWords past
   pub right : StandsRight limits words past
-  pub passed : (rest : List Entry) → slotTest (limits .k) (claim .level - 1) (claim .code) (heads (forestOf past) ++ rest) ≡ leftTest limits claim pass rest
-  pub now-is : now ≡ seenWith first (forestOf past)
+  pub passed : (rest : List Entry) → slotTest (limits .k) (claim .level - 1) (claim .code) (heads past ++ rest) ≡ leftTest limits claim pass rest
+  pub now-is : now ≡ seenWith first past
 
-heads-join : (f g : Forest) → heads (f ⧺ g) ≡ heads f ++ heads g
+pub heads-join : {A : Type 0} (f g : ForestOf A) → heads (f ⧺ g) ≡ heads f ++ heads g
 heads-join empty g = refl
 heads-join (pixel c f) g = ap (λ (l : List Entry). entry 0 c ∷ l) (heads-join f g)
-heads-join (block i c es f) g = ap (λ (l : List Entry). entry i c ∷ l) (heads-join f g)
-
--- level and code of elements after others
-pub heads-placed : (a b : Placed) → heads (forestOf (a ⧻ b)) ≡ heads (forestOf a) ++ heads (forestOf b)
-heads-placed a b = ap heads (forest-join a b) ∙ heads-join (forestOf a) (forestOf b)
+heads-join (blockAt v i c es f) g = ap (λ (l : List Entry). entry i c ∷ l) (heads-join f g)
 
 two-words : (l : List ℕ) (n : ℕ) → n + 2 ≤ length l → take 2 (drop n l) ≡ getD l n 0 ∷ getD l (n + 1) 0 ∷ []
 two-words l n h =
@@ -60,7 +57,7 @@ two-words l n h =
 
 module _ {limits : Limits} {words : List ℕ} {claim : Claim} {first : Seen} where
   pub walked-none : WalkedTo limits words claim first 0 (firstPass (claim .level - 1) (claim .code)) first
-  walked-none = record { past = nothing; many = refl; names = refl; right = right-nothing; passed = λ rest. refl; now-is = seen-none first }
+  walked-none = record { past = empty; many = refl; names = refl; right = right-nothing; passed = λ rest. refl; now-is = seen-none first }
 
   pub walked-one : {i : ℕ} {pass next : Pass} {now more : Seen} {element : Element} → element ≡ elementAt (partOf limits words claim) i
       → 8 + 2 * i + 2 ≤ length (partOf limits words claim) → WalkedTo limits words claim first i pass now
@@ -70,22 +67,21 @@ module _ {limits : Limits} {words : List ℕ} {claim : Claim} {first : Seen} whe
       let part : List ℕ = partOf limits words claim in
       let old : Placed = w .past in
       let one : Placed = x .found in
-      let n : ℕ = 2 * size (forestOf old) in
-      let m : 2 * size (forestOf (old ⧻ one)) ≡ n + 2 = omega (arith, size-placed-join old one, names-one element one (x .names)) in
+      let n : ℕ = 2 * size old in
+      let m : 2 * size (old ⧺ one) ≡ n + 2 = omega (arith, size-join old one, names-one element one (x .names)) in
       let at : 8 + n ≡ 8 + 2 * i = omega (arith, w .many) in
       let said : Names (elementAt part i) one = rw e at (x .names) in
       let own : take 2 (drop n (elementPart part)) ≡ elementWords one =
       ap (take 2) (drop-drop n 8 part ∙ ap (λ (j : ℕ). drop j part) at) ∙ two-words part (8 + 2 * i) laid ∙ sym (names-words _ _ one said) in
       record {
-        past = old ⧻ one;
-        many = omega (arith, w .many, size-placed-join old one, names-one element one (x .names));
+        past = old ⧺ one;
+        many = omega (arith, w .many, size-join old one, names-one element one (x .names));
         names = ap (λ (j : ℕ). take j (elementPart part)) m ∙ take-add n 2 (elementPart part) ∙ ap₂ _++_ (w .names) own ∙ sym (words-join old one);
         right = right-join old one (w .right) (x .at);
         passed = λ rest.
             ap (slotTest (limits .k) (claim .level - 1) (claim .code))
-            (ap (λ (l : List Entry). l ++ rest) (heads-placed old one) ∙ append-assoc (heads (forestOf old)) (heads (forestOf one)) rest
-            ∙ ap (λ (l : List Entry). heads (forestOf old) ++ (l ++ rest)) (names-head element one (x .names)))
+            (ap (λ (l : List Entry). l ++ rest) (heads-join old one) ∙ append-assoc (heads old) (heads one) rest
+            ∙ ap (λ (l : List Entry). heads old ++ (l ++ rest)) (names-head element one (x .names)))
             ∙ w .passed (entryOf element ∷ rest) ∙ p .goes _ rest;
-        now-is = x .now-is ∙ ap (λ (s : Seen). seenWith s (forestOf one)) (w .now-is) ∙ seen-join first (forestOf old) (forestOf one)
-            ∙ ap (seenWith first) (sym (forest-join old one));
+        now-is = x .now-is ∙ ap (λ (s : Seen). seenWith s one) (w .now-is) ∙ seen-join first old one;
       }

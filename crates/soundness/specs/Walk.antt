@@ -5,7 +5,7 @@ use mathlib.Core.Bool.{true}
 use mathlib.Core.List.{List}
 use lib.ListN.{length}
 use Rattle.pktree.specs.Lists.{Every}
-use Rattle.pktree.specs.Elements.{Forest, empty, block, size}
+use Rattle.pktree.specs.Elements.{ForestOf, empty, size, blockAt, pixel}
 use Rattle.pktree.specs.Tree.{pixels}
 use Rattle.pktree.proofs.Forests.{blockCount}
 use Rattle.pktree.proofs.LocalTest.{heads, slotTest, insideTest}
@@ -13,7 +13,7 @@ use Rattle.store.specs.declared.elements.Element.{Element}
 use Rattle.store.specs.declared.elements.Element.the-variants.{Pixel, Block}
 use Rattle.measures.specs.Layout.{LayoutFits}
 use Rattle.measures.specs.Slot.{slotPart}
-use Rattle.store.specs.Placed.{Placed, nothing, pixelThen, blockThen, forestOf, slotsOf}
+use Rattle.store.specs.Placed.{Placed, slotsOf}
 use Rattle.store.proofs.Standing.{SlotSays, Stands}
 use Rattle.store.specs.declared.opening.Opening.{Opening}
 use Rattle.store.specs.declared.opening.Opening.the-variants.{Elements, Damaged}
@@ -37,20 +37,20 @@ pub record WithinLimits (limits : Limits) (seen : Seen) : Type 0 where
   pub pixels-to : seen .pixels ≤ limits .most
 
 -- the numbers with those of these elements
-abbrev pub seenWith : Seen → Forest → Seen
+abbrev pub seenWith : {A : Type 0} → Seen → ForestOf A → Seen
 seenWith seen f = record { blocks = seen .blocks + blockCount f; pixels = seen .pixels + length (pixels f) }
 
 -- elements that stand in the words, in slots that there are, with every block among them right by the local law
 pub record StandsRight (limits : Limits) (words : List ℕ) (t : Placed) : Type 0 where
   pub stands : Stands (limits .layout .width) words t
-  pub right : insideTest (limits .k) (forestOf t) ≡ true
+  pub right : insideTest (limits .k) t ≡ true
   pub inside : Every (λ s. s < limits .layout .slots) (slotsOf t)
 
 -- a block in its slot, right by the local law, with at least so many elements
 pub record BlockAt (limits : Limits) (words : List ℕ) (claim : Claim) (es : Placed) : Type 0 where
   pub says : SlotSays (slotPart (limits .layout .width) words (claim .slot)) (claim .level) (claim .code) es
-  pub many : claim .least ≤ size (forestOf es)
-  pub passes : slotTest (limits .k) (claim .level - 1) (claim .code) (heads (forestOf es)) ≡ true
+  pub many : claim .least ≤ size es
+  pub passes : slotTest (limits .k) (claim .level - 1) (claim .code) (heads es) ≡ true
   pub elements : StandsRight limits words es
 
 pub record CanWalk (limits : Limits) (words : List ℕ) (claim : Claim) (seen : Seen) : Type 0 where
@@ -61,8 +61,8 @@ pub record CanWalk (limits : Limits) (words : List ℕ) (claim : Claim) (seen : 
   pub within : WithinLimits limits seen
 
 -- the block with these elements
-abbrev pub claimed : Claim → Placed → Forest
-claimed claim es = block (claim .level) (claim .code) (forestOf es) empty
+abbrev pub claimed : Claim → Placed → Placed
+claimed claim es = blockAt (claim .slot) (claim .level) (claim .code) es empty
 
 -- no block is as claimed for whose blocks and pixels there is room
 abbrev pub NoneClaimed : Limits → List ℕ → Claim → Seen → Type 0
@@ -95,8 +95,8 @@ PixelMeets limits seen Broken = limits .most ≤ seen .pixels
 
 -- the words of an element name this one
 abbrev pub Names : Element → Placed → Type 0
-Names (Pixel c) t = t ≡ pixelThen c nothing
-Names (Block s i c) t = (es : Placed) × (t ≡ blockThen s i c es nothing)
+Names (Pixel c) t = t ≡ pixel c empty
+Names (Block s i c) t = (es : Placed) × (t ≡ blockAt s i c es empty)
 
 pub record CanWalkElement (limits : Limits) (words : List ℕ) (element : Element) (level : ℕ) (seen : Seen) : Type 0 where
   pub can : CanLook limits words
@@ -108,10 +108,10 @@ pub record ElementWalked (limits : Limits) (words : List ℕ) (element : Element
   pub found : Placed
   pub names : Names element found
   pub at : StandsRight limits words found
-  pub now-is : now ≡ seenWith seen (forestOf found)
+  pub now-is : now ≡ seenWith seen found
   pub within : WithinLimits limits now
 
 abbrev pub WalkElementMeets : Limits → List ℕ → Element → Seen → Walked → Type 0
 WalkElementMeets limits words element seen (Whole now) = ElementWalked limits words element seen now
 WalkElementMeets limits words element seen Broken =
-    (t : Placed) → Names element t → StandsRight limits words t → WithinLimits limits (seenWith seen (forestOf t)) → ⊥
+    (t : Placed) → Names element t → StandsRight limits words t → WithinLimits limits (seenWith seen t) → ⊥

@@ -5,44 +5,45 @@ use mathlib.Core.Path.{_≡_, ap, ap₂, sym, _∙_}
 use mathlib.Core.List.{List, _∷_, _++_}
 use lib.ListN.{take, drop}
 use lib.Seq.{take-at, drop-at, drop-drop}
-use Rattle.pktree.specs.Elements.{size}
-use Rattle.store.specs.Placed.{Placed, blockThen, _⧻_, forestOf}
+use Rattle.store.specs.Element.{tagSlots}
+use Rattle.pktree.specs.Elements.{size, _⧺_, blockAt}
+use Rattle.store.specs.Placed.{Placed}
 use Rattle.store.proofs.Standing.{elementWords}
 use Rattle.store.proofs.PlacedJoin.{words-join, length-element-words}
 use Rattle.rewrite.specs.Rewrite.{blockWords, runWords, withBlock}
 
 module _ (a m b : Placed) where
-  words : elementWords (a ⧻ (m ⧻ b)) ≡ elementWords a ++ (elementWords m ++ elementWords b)
-  words = words-join a (m ⧻ b) ∙ ap (λ (l : List ℕ). elementWords a ++ l) (words-join m b)
+  words : elementWords (a ⧺ (m ⧺ b)) ≡ elementWords a ++ (elementWords m ++ elementWords b)
+  words = words-join a (m ⧺ b) ∙ ap (λ (l : List ℕ). elementWords a ++ l) (words-join m b)
 
-  pub front-words : (n : ℕ) → size (forestOf a) ≡ n → take (2 * n) (elementWords (a ⧻ (m ⧻ b))) ≡ elementWords a
+  pub front-words : (n : ℕ) → size a ≡ n → take (2 * n) (elementWords (a ⧺ (m ⧺ b))) ≡ elementWords a
   front-words n e = ap (take (2 * n)) words ∙ take-at (elementWords a) (elementWords m ++ elementWords b) (2 * n) (length-element-words a ∙ ap (λ (i : ℕ). 2 * i) e)
 
-  behind : (n : ℕ) → size (forestOf a) ≡ n → drop (2 * n) (elementWords (a ⧻ (m ⧻ b))) ≡ elementWords m ++ elementWords b
+  behind : (n : ℕ) → size a ≡ n → drop (2 * n) (elementWords (a ⧺ (m ⧺ b))) ≡ elementWords m ++ elementWords b
   behind n e = ap (drop (2 * n)) words ∙ drop-at (elementWords a) (elementWords m ++ elementWords b) (2 * n) (length-element-words a ∙ ap (λ (i : ℕ). 2 * i) e)
 
-  pub middle-words : (n r : ℕ) → size (forestOf a) ≡ n → size (forestOf m) ≡ r → runWords (elementWords (a ⧻ (m ⧻ b))) n r ≡ elementWords m
+  pub middle-words : (n r : ℕ) → size a ≡ n → size m ≡ r → runWords (elementWords (a ⧺ (m ⧺ b))) n r ≡ elementWords m
   middle-words n r e f = ap (take (2 * r)) (behind n e) ∙ take-at (elementWords m) (elementWords b) (2 * r) (length-element-words m ∙ ap (λ (i : ℕ). 2 * i) f)
 
-  pub back-words : (n r : ℕ) → size (forestOf a) ≡ n → size (forestOf m) ≡ r → drop (2 * (n + r)) (elementWords (a ⧻ (m ⧻ b))) ≡ elementWords b
+  pub back-words : (n r : ℕ) → size a ≡ n → size m ≡ r → drop (2 * (n + r)) (elementWords (a ⧺ (m ⧺ b))) ≡ elementWords b
   back-words n r e f =
       let q : 2 * (n + r) ≡ 2 * n + 2 * r = omega arith in
-      rw q (sym (drop-drop (2 * r) (2 * n) (elementWords (a ⧻ (m ⧻ b)))) ∙ ap (drop (2 * r)) (behind n e)
+      rw q (sym (drop-drop (2 * r) (2 * n) (elementWords (a ⧺ (m ⧺ b)))) ∙ ap (drop (2 * r)) (behind n e)
       ∙ drop-at (elementWords m) (elementWords b) (2 * r) (length-element-words m ∙ ap (λ (i : ℕ). 2 * i) f))
 
   -- other elements in the middle
-  pub spliced-words : (source : List ℕ) (new : Placed) (n r i : ℕ) → size (forestOf a) ≡ n → size (forestOf m) ≡ r → take (2 * i) source ≡ elementWords new
-      → take (2 * n) (elementWords (a ⧻ (m ⧻ b))) ++ (take (2 * i) source ++ drop (2 * (n + r)) (elementWords (a ⧻ (m ⧻ b)))) ≡ elementWords (a ⧻ (new ⧻ b))
+  pub spliced-words : (source : List ℕ) (new : Placed) (n r i : ℕ) → size a ≡ n → size m ≡ r → take (2 * i) source ≡ elementWords new
+      → take (2 * n) (elementWords (a ⧺ (m ⧺ b))) ++ (take (2 * i) source ++ drop (2 * (n + r)) (elementWords (a ⧺ (m ⧺ b)))) ≡ elementWords (a ⧺ (new ⧺ b))
   spliced-words source new n r i e f g =
-      ap₂ _++_ (front-words n e) (ap₂ _++_ g (back-words n r e f)) ∙ sym (words-join a (new ⧻ b) ∙ ap (λ (l : List ℕ). elementWords a ++ l) (words-join new b))
+      ap₂ _++_ (front-words n e) (ap₂ _++_ g (back-words n r e f)) ∙ sym (words-join a (new ⧺ b) ∙ ap (λ (l : List ℕ). elementWords a ++ l) (words-join new b))
 
   -- a block in the middle's place
-  pub block-words : (s i c n r : ℕ) → size (forestOf a) ≡ n → size (forestOf m) ≡ r
-      → withBlock (elementWords (a ⧻ (m ⧻ b))) n r (blockWords s i c) ≡ elementWords (a ⧻ blockThen s i c m b)
+  pub block-words : (s i c n r : ℕ) → size a ≡ n → size m ≡ r
+      → withBlock (elementWords (a ⧺ (m ⧺ b))) n r (blockWords s i c) ≡ elementWords (a ⧺ blockAt s i c m b)
   block-words s i c n r e f =
-      let q : 1 + s + i * 1048576 ≡ 1 + (s + i * 1048576) = omega arith in
-      let z : blockWords s i c ++ elementWords b ≡ elementWords (blockThen s i c m b) = ap (λ (t : ℕ). c ∷ t ∷ elementWords b) (q ∙ one (s + i * 1048576)) in
-      ap₂ _++_ (front-words n e) (ap (λ (l : List ℕ). blockWords s i c ++ l) (back-words n r e f) ∙ z) ∙ sym (words-join a (blockThen s i c m b))
+      let q : 1 + s + i * tagSlots ≡ 1 + (s + i * tagSlots) = omega arith in
+      let z : blockWords s i c ++ elementWords b ≡ elementWords (blockAt s i c m b) = ap (λ (t : ℕ). c ∷ t ∷ elementWords b) (q ∙ one (s + i * tagSlots)) in
+      ap₂ _++_ (front-words n e) (ap (λ (l : List ℕ). blockWords s i c ++ l) (back-words n r e f) ∙ z) ∙ sym (words-join a (blockAt s i c m b))
     where
       one : (t : ℕ) → 1 + t ≡ Prim.Native.Nat.suc t
       one t = omega arith

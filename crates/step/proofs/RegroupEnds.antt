@@ -6,13 +6,14 @@ use mathlib.Core.Logic.{_⊎_, inl, inr}
 use mathlib.Core.List.{List, [], _∷_}
 use lib.ListN.{getD, take, set}
 use lib.Seq.{take-set-le, take-take}
+use Rattle.store.specs.Element.{tagSlots}
 use Rattle.pktree.specs.Elements.{size}
 use Rattle.pktree.proofs.Alignment.{blockCode}
 use Rattle.pktree.proofs.Absurd.{zero-is-not-one}
 use Rattle.measures.specs.declared.sizes.Layout.{Layout}
 use Rattle.measures.specs.Layout.{LayoutFits}
 use Rattle.measures.specs.Slot.{OnlySlot}
-use Rattle.store.specs.Placed.{Placed, forestOf}
+use Rattle.store.specs.Placed.{Placed}
 use Rattle.measures.proofs.SlotWrites.{take-less}
 use Rattle.descent.specs.Way.{Frame}
 use Rattle.rewrite.specs.declared.Forming.the-variants.{NoSlot}
@@ -39,7 +40,7 @@ front-kept v before after e =
 
 module _ (σ : Setting) (layout : Layout) (before after : List ℕ) (way : List Frame) (slot outer code : ℕ) (es : Placed) (free : List ℕ) (j first n d : ℕ)
     (layout-is : layout ≡ σ .layout) (d-is : d ≡ blockCode j (σ .x)) (h : Laid σ before way slot outer code es free) (g : FormedAt (σ .k) outer code (σ .x) j first n es) where
-  pub regrouped-up : (scratch scratch′ : List ℕ) (r : ℕ) → (way ≡ [] → ⊥) → slot < 1048576 → r < σ .k → HandedUpBlock layout slot j d first n before after scratch scratch′ r
+  pub regrouped-up : (scratch scratch′ : List ℕ) (r : ℕ) → (way ≡ [] → ⊥) → slot < tagSlots → r < σ .k → HandedUpBlock layout slot j d first n before after scratch scratch′ r
       → SteppedRight σ after scratch′ way slot (Up r)
   regrouped-up scratch scratch′ r some small few u = go way refl h
     where
@@ -52,8 +53,8 @@ module _ (σ : Setting) (layout : Layout) (before after : List ℕ) (way : List 
       go (f ∷ w) e l = up-with-block σ before f w slot outer code es free l after scratch scratch′ j first n r g small (omega (arith, u′ .rest-is, l .says .count-is)) u′
 
   -- the block around has its elements, as the root or because k are left
-  enough-left : (way ≡ []) ⊎ (σ .k + n ≤ size (forestOf es) + 1) → (t : ℕ)
-      → (outer ≡ σ .m) ⊎ (σ .k ≤ size (forestOf (Rattle.step.proofs.StepLaws.formedAs σ before way slot outer code es free h j first n g t)))
+  enough-left : (way ≡ []) ⊎ (σ .k + n ≤ size es + 1) → (t : ℕ)
+      → (outer ≡ σ .m) ⊎ (σ .k ≤ size (Rattle.step.proofs.StepLaws.formedAs σ before way slot outer code es free h j first n g t))
   enough-left (inl e) t = inl (root way e (h .around .frames-right))
     where
       root : (w : List Frame) → w ≡ [] → Rattle.change.proofs.Frames.FramesRight (σ .k) (σ .m) w outer code → outer ≡ σ .m
@@ -61,14 +62,14 @@ module _ (σ : Setting) (layout : Layout) (before after : List ℕ) (way : List 
       root (f ∷ w) e r = zero-is-not-one (cc)
   enough-left (inr e) t = inr (omega (arith, formed-size σ before way slot outer code es free h j first n g t))
 
-  pub regrouped-done : LayoutFits layout before → (way ≡ []) ⊎ (σ .k + n ≤ size (forestOf es) + 1) → BlockFormed layout slot j d first n (getD before 7 0) before after → Completed σ after
+  pub regrouped-done : LayoutFits layout before → (way ≡ []) ⊎ (σ .k + n ≤ size es + 1) → BlockFormed layout slot j d first n (getD before 7 0) before after → Completed σ after
   regrouped-done fits enough u =
       at-rest-with-block σ before way slot outer code es free h j first n g (getD before 7 0) after (subst (λ (l : Layout). LayoutFits l before) layout-is fits)
       (enough-left enough (getD before 7 0))
       (subst (λ (c : ℕ). BlockFormed (σ .layout) slot j c first n (getD before 7 0) before after) d-is
       (subst (λ (l : Layout). BlockFormed l slot j d first n (getD before 7 0) before after) layout-is u))
 
-  pub never-without : (way ≡ []) ⊎ (σ .k + n ≤ size (forestOf es) + 1) → FormMeets layout slot j d first n before after NoSlot → ⊥
+  pub never-without : (way ≡ []) ⊎ (σ .k + n ≤ size es + 1) → FormMeets layout slot j d first n before after NoSlot → ⊥
   never-without enough u =
       never-without-slot σ before way slot outer code es free h j first n g after (enough-left enough 0)
       (subst (λ (l : Layout). FormMeets l slot j d first n before after NoSlot) layout-is u)

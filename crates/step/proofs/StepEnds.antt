@@ -7,14 +7,14 @@ use mathlib.Core.Bool.{Bool, true}
 use mathlib.Core.List.{List, [], _∷_}
 use lib.ListN.{length, getD, take, drop}
 use lib.Seq.{getD-take, getD-set-same, length-take-le}
-use Rattle.pktree.specs.Elements.{size}
+use Rattle.pktree.specs.Elements.{size, _⧺_}
 use Rattle.pktree.proofs.Arranged.{LocallyRight}
 use Rattle.measures.specs.declared.sizes.Layout.{Layout}
 use Rattle.measures.specs.Layout.{LayoutFits, storeEnd}
 use Rattle.measures.specs.Slot.{slotPart, levelWord, countWord}
 use Rattle.store.specs.Splice.{CanSplice}
 use Rattle.store.specs.FreeSlots.{Released}
-use Rattle.store.specs.Placed.{Placed, _⧻_, forestOf}
+use Rattle.store.specs.Placed.{Placed}
 use Rattle.measures.proofs.Usable.{slot-long}
 use Rattle.descent.specs.Way.{Frame}
 use Rattle.runs.specs.declared.Run.{Run}
@@ -108,18 +108,18 @@ module _ {change : Change} {root : Bool} {σ : Setting} {way : List Frame} {slot
   level-says : levelWord (slotPart (change .layout .width) words slot) ≡ level
   level-says = ap levelWord same-part ∙ h .says .level-is
 
-  count-says : countWord (slotPart (change .layout .width) words slot) ≡ size (forestOf es)
+  count-says : countWord (slotPart (change .layout .width) words slot) ≡ size es
   count-says = ap countWord same-part ∙ h .says .count-is
 
   level-up-to : levelWord (slotPart (change .layout .width) words slot) ≤ 16
   level-up-to = omega (arith, level-says, frames-level (σ .k) (σ .m) way level code (h .around .frames-right), σ .m-to)
 
-  ascends : AscendingCodes (slotPart (widthIn σ) words slot) (size (forestOf es))
+  ascends : AscendingCodes (slotPart (widthIn σ) words slot) (size es)
   ascends = slot-ascends (slotPart (widthIn σ) words slot) level code es (σ .k) _ _ _ (h .says) (h .around .disturbed .arranged)
 
 -- so the run is the block to be formed
 run-formed : (σ : Setting) (words : List ℕ) (way : List Frame) (s level code : ℕ) (es : Placed) (free : List ℕ) (j first n : ℕ) → Laid σ words way s level code es free
-    → AscendingCodes (slotPart (widthIn σ) words s) (size (forestOf es)) → RunFormed (slotPart (widthIn σ) words s) (size (forestOf es)) level (σ .k) (σ .x) j first n
+    → AscendingCodes (slotPart (widthIn σ) words s) (size es) → RunFormed (slotPart (widthIn σ) words s) (size es) level (σ .k) (σ .x) j first n
     → FormedAt (σ .k) level code (σ .x) j first n es
 run-formed σ words way s zero code es free j first n h up r = absurd (omega (arith, h .around .level-from))
 run-formed σ words way s (suc l) code es free j first n h up r =
@@ -133,7 +133,7 @@ enough σ change root way level code n i f (inr h) = inr (omega (arith, i .k-is)
 
 -- below the root an underfull block hands all up
 up-below-root : (σ : Setting) (words : List ℕ) (way : List Frame) (s level code : ℕ) (es : Placed) (free after scratch scratch′ : List ℕ) (n : ℕ) → (way ≡ [] → ⊥)
-    → Laid σ words way s level code es free → LocallyRight (σ .k) level code (forestOf es) → size (forestOf es) < σ .k
+    → Laid σ words way s level code es free → LocallyRight (σ .k) level code es → size es < σ .k
     → HandedUpAll (σ .layout) s words after scratch scratch′ n → SteppedRight σ after scratch′ way s (Up n)
 up-below-root σ words [] s level code es free after scratch scratch′ n ne h right few u = ne refl
 up-below-root σ words (f ∷ way) s level code es free after scratch scratch′ n ne h right few u =
@@ -160,7 +160,7 @@ module _ {change : Change} {root : Bool} {slot place removed inserted count : �
   -- what follows from the elements laid, right where nothing came, is what the step comes to
   stepped : {after scratch′ : List ℕ} {r : Stepped} → Kept (change .layout) mid after → UpTo16 r → length scratch′ ≡ length scratch
       → ((σ : Setting) (way : List Frame) (level code : ℕ) (es : Placed) (free : List ℕ) → InSetting σ change root way → Laid σ mid way slot level code es free
-      → (inserted ≡ 0 → LocallyRight (σ .k) level code (forestOf es)) → SteppedRight σ after scratch′ way slot r)
+      → (inserted ≡ 0 → LocallyRight (σ .k) level code es) → SteppedRight σ after scratch′ way slot r)
       → StepMeets change root slot place removed inserted before after scratch scratch′ r
   stepped kept bounds long right = record {
     kept = kept-then (kept-but-slot (change .layout) slot before mid (can .slot-below) (put .2 .only)) kept;
@@ -168,18 +168,18 @@ module _ {change : Change} {root : Bool} {slot place removed inserted count : �
     scratch-long = long;
     right = λ σ way level code a old new b free i p o n w h.
         let done = subst (λ (l : Layout). PutMeets l slot place removed inserted scratch before mid (placing.Elements count)) (i .layout-is) put in
-        right σ way level code (a ⧻ (new ⧻ b)) free i
+        right σ way level code (a ⧺ (new ⧺ b)) free i
         (laid-by-splice σ before way slot level code a old new b free place removed inserted scratch h p o n mid w (done .1) (done .2)) (λ none. h .right-if-none-inserted (n ∙ none));
   }
 
   -- where the elements laid are right, the change is at rest, or the underfull block is deinstantiated
   module _ (right-then : (σ : Setting) (way : List Frame) (level code : ℕ) (es : Placed) (free : List ℕ) → InSetting σ change root way → Laid σ mid way slot level code es free
-      → (inserted ≡ 0 → LocallyRight (σ .k) level code (forestOf es)) → LocallyRight (σ .k) level code (forestOf es)) where
+      → (inserted ≡ 0 → LocallyRight (σ .k) level code es) → LocallyRight (σ .k) level code es) where
     at-rest-or-deinstantiated : {after scratch′ : List ℕ} (r : Stepped) → change .k ≤ 16 → UnderfullMeets change root slot count mid after scratch scratch′ r
         → StepMeets change root slot place removed inserted before after scratch scratch′ r
     at-rest-or-deinstantiated Done k-to (e, same, scratch-same) = stepped (kept-same (change .layout) mid _ same) tt (ap length scratch-same)
         (λ σ way level code es free i h s. subst (Completed σ) (sym same) (done-as-it-is σ mid way slot level code es free h (right-then σ way level code es free i h s)
-        (enough σ change root way level code (size (forestOf es)) i (h .around .frames-right)
+        (enough σ change root way level code (size es) i (h .around .frames-right)
         (subst (λ (n : ℕ). (root ≡ true) ⊎ (change .k ≤ n)) (sym (count-then can put) ∙ count-says i h) e))))
     at-rest-or-deinstantiated {after} {scratch′} (Up n) k-to (e, few, u) =
         stepped (kept-by-release (can .slot-below) (u .freed)) (omega (arith, u .rest-is, count-then can put)) (u .long)
@@ -200,7 +200,7 @@ module _ {change : Change} {root : Bool} {slot place removed inserted count : �
     -- what the search found, in each setting
     found : {σ : Setting} {way : List Frame} {level code : ℕ} {es : Placed} {free : List ℕ} (r : Run) → InSetting σ change root way → Laid σ mid way slot level code es free
         → RunMeets part count (getD part 0 0) (change .k) (change .code) r
-        → RunMeets (slotPart (widthIn σ) mid slot) (size (forestOf es)) level (σ .k) (σ .x) r
+        → RunMeets (slotPart (widthIn σ) mid slot) (size es) level (σ .k) (σ .x) r
     found r i h =
         found-in r (lent ∙ same-part i h) (sym (count-then can put) ∙ count-says i h) (ap levelWord lent ∙ level-says i h) (i .k-is) (i .x-is)
 

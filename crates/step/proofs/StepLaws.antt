@@ -5,19 +5,20 @@ use mathlib.Core.Path.{_≡_, refl, ap, ap₂, subst, sym, _∙_}
 use mathlib.Core.Logic.{_⊎_, inl, inr}
 use mathlib.Core.List.{List, [], _∷_, _++_}
 use lib.ListN.{length, getD, take, drop, set}
+use Rattle.store.specs.Element.{tagSlots}
 use Rattle.pktree.specs.Lists.{Every}
-use Rattle.pktree.specs.Elements.{Forest, block, _⧺_, size}
+use Rattle.pktree.specs.Elements.{_⧺_, size, blockAt}
 use Rattle.pktree.specs.Tree.{pixels}
 use Rattle.pktree.proofs.Forests.{size-join, pixels-join, blockCount, blockCount-join}
 use Rattle.pktree.proofs.Alignment.{blockCode}
-use Rattle.pktree.proofs.Arranged.{quarterLevel, Arranged, LocallyRight}
+use Rattle.pktree.proofs.Arranged.{quarterLevel, LocallyRight}
 use Rattle.measures.specs.Slot.{slotPart, levelWord, nextWord}
 use Rattle.store.specs.Splice.{elementsIn, CanSplice}
 use Rattle.measures.specs.Layout.{LayoutFits}
-use Rattle.store.specs.Placed.{Placed, blockThen, _⧻_, forestOf, slotsOf}
+use Rattle.store.specs.Placed.{Placed, slotsOf}
 use Rattle.store.specs.FreeSlots.{FreeSlots, occurrences}
 use Rattle.store.proofs.Standing.{elementWords, SlotSays, Stands, frame, every-left, every-right}
-use Rattle.store.proofs.PlacedJoin.{forest-join, slots-join, size-placed-join, stands-join, stands-parts}
+use Rattle.store.proofs.PlacedJoin.{slots-join, stands-join, stands-parts}
 use Rattle.measures.proofs.SlotWrites.{HeadWritten, word-in-front}
 use Rattle.measures.proofs.Usable.{slot-long}
 use Rattle.store.proofs.BlockView.{elements-lie}
@@ -47,19 +48,19 @@ holds-x σ words way s level code es free h =
     (h .disturbed .above, subst (λ (l : ℕ). σ .x < code + 4 ^ l) (sym (level-is level (h .level-from))) (h .disturbed .below))
 
 module _ (σ : Setting) (before : List ℕ) (way : List Frame) (s level code : ℕ) (a old new b : Placed) (free : List ℕ) (place removed inserted : ℕ) (scratch : List ℕ)
-    (h : Pending σ before way s level code a old new b free) (place-is : size (forestOf a) ≡ place) (removed-is : size (forestOf old) ≡ removed)
-    (inserted-is : size (forestOf new) ≡ inserted) where
+    (h : Pending σ before way s level code a old new b free) (place-is : size a ≡ place) (removed-is : size old ≡ removed)
+    (inserted-is : size new ≡ inserted) where
   abbrev pub part : List ℕ
   part = slotPart (widthIn σ) before s
 
-  sizes : (t : Placed) → size (forestOf (a ⧻ (t ⧻ b))) ≡ size (forestOf a) + (size (forestOf t) + size (forestOf b))
-  sizes t = size-placed-join a (t ⧻ b) ∙ ap (λ (n : ℕ). size (forestOf a) + n) (size-placed-join t b)
+  sizes : (t : Placed) → size (a ⧺ (t ⧺ b)) ≡ size a + (size t + size b)
+  sizes t = size-join a (t ⧺ b) ∙ ap (λ (n : ℕ). size a + n) (size-join t b)
 
   -- on a register's words the splice can be done
   pub can-splice : LayoutFits (σ .layout) before → length scratch ≡ 32 → inserted ≤ 16 → CanSplice part scratch place removed inserted
   can-splice fits room few =
-      let long : length part ≡ widthIn σ = slot-long (σ .layout) before s fits (slot-below σ before way s level code (a ⧻ (new ⧻ b)) free (h .around)) in
-      let lie = elements-lie part level code (a ⧻ (old ⧻ b)) (h .says) (omega (arith, fits .within .width-from)) in
+      let long : length part ≡ widthIn σ = slot-long (σ .layout) before s fits (slot-below σ before way s level code (a ⧺ (new ⧺ b)) free (h .around)) in
+      let lie = elements-lie part level code (a ⧺ (old ⧺ b)) (h .says) (omega (arith, fits .within .width-from)) in
       let n = h .says .count-is in
       record {
         short = omega (arith, fits .within .width-to);
@@ -70,13 +71,13 @@ module _ (σ : Setting) (before : List ℕ) (way : List Frame) (s level code : �
       }
 
   pub laid-by-splice : (after : List ℕ) → take (2 * inserted) scratch ≡ elementWords new → CanSplice part scratch place removed inserted
-      → SplicedSlot (widthIn σ) s place removed inserted scratch before after → Laid σ after way s level code (a ⧻ (new ⧻ b)) free
+      → SplicedSlot (widthIn σ) s place removed inserted scratch before after → Laid σ after way s level code (a ⧺ (new ⧺ b)) free
   laid-by-splice after scratch-is can r =
-      let old-words : elementsIn part ≡ elementWords (a ⧻ (old ⧻ b)) = says-now (h .says) .elements-are in
+      let old-words : elementsIn part ≡ elementWords (a ⧺ (old ⧺ b)) = says-now (h .says) .elements-are in
       let now = spliced-now can (r .spliced) in
       let e = spliced-words a old b scratch new place removed inserted place-is removed-is scratch-is in
       record {
-        around = around-kept σ before way s level code (a ⧻ (new ⧻ b)) free (h .around) after (r .only);
+        around = around-kept σ before way s level code (a ⧺ (new ⧺ b)) free (h .around) after (r .only);
         says = now-says (record {
           level-is = now .level-is ∙ h .says .level-is;
           code-is = now .code-is ∙ h .says .code-is;
@@ -90,15 +91,15 @@ module _ (σ : Setting) (words : List ℕ) (way : List Frame) (s level code : �
   around = h .around
 
   -- no block is to be formed
-  pub right-as-it-is : ((i : ℕ) → i < level → countNear i (σ .x) (codesFrom (slotPart (widthIn σ) words s) 0 (size (forestOf es))) < σ .k)
-      → LocallyRight (σ .k) level code (forestOf es)
+  pub right-as-it-is : ((i : ℕ) → i < level → countNear i (σ .x) (codesFrom (slotPart (widthIn σ) words s) 0 (size es)) < σ .k)
+      → LocallyRight (σ .k) level code es
   right-as-it-is few =
       let e = level-is level (around .level-from) in
-      subst (λ (l : ℕ). LocallyRight (σ .k) l code (forestOf es)) (sym e)
+      subst (λ (l : ℕ). LocallyRight (σ .k) l code es) (sym e)
       (no-run (σ .k) (quarterLevel level) code (σ .x) (slotPart (widthIn σ) words s) es (σ .k-from)
       (subst (λ (l : ℕ). SlotSays (slotPart (widthIn σ) words s) l code es) e (h .says)) (around .disturbed) (λ i p. few i (omega arith)))
 
-  pub done-as-it-is : LocallyRight (σ .k) level code (forestOf es) → (level ≡ σ .m) ⊎ (σ .k ≤ size (forestOf es)) → Completed σ words
+  pub done-as-it-is : LocallyRight (σ .k) level code es → (level ≡ σ .m) ⊎ (σ .k ≤ size es) → Completed σ words
   done-as-it-is right enough =
       let x = holds-x σ words way s level code es free around in
       completed σ words way s level code es free
@@ -123,18 +124,18 @@ module _ (σ : Setting) (words : List ℕ) (way : List Frame) (s level code : �
 
 module _ (σ : Setting) (words : List ℕ) (f : Frame) (way : List Frame) (s level code : ℕ) (es : Placed) (free : List ℕ) (h : Laid σ words (f ∷ way) s level code es free) where
   -- it is not the root, so it has an element
-  has-some : (level ≡ σ .m) ⊎ (1 ≤ size (forestOf es)) → 1 ≤ size (forestOf es)
+  has-some : (level ≡ σ .m) ⊎ (1 ≤ size es) → 1 ≤ size es
   has-some (inl e) = let r = h .around .frames-right in absurd (omega (arith, frames-level (σ .k) (σ .m) way (f .level) (f .code) (r .1), r .0 .under))
   has-some (inr n) = n
 
   -- an underfull block that forms none
-  pub up-with-all : (after scratch scratch′ : List ℕ) (r : ℕ) → LocallyRight (σ .k) level code (forestOf es) → size (forestOf es) < σ .k
+  pub up-with-all : (after scratch scratch′ : List ℕ) (r : ℕ) → LocallyRight (σ .k) level code es → size es < σ .k
       → HandedUpAll (σ .layout) s words after scratch scratch′ r → PendingAbove σ after scratch′ f way s r
   up-with-all after scratch scratch′ r right few u =
       let o = h .around in
       let x = holds-x σ words (f ∷ way) s level code es free o in
       let same = agree σ words (f ∷ way) s level code es free h after (u .freed .others) in
-      let n : r ≡ size (forestOf es) = u .rest-is ∙ h .says .count-is in
+      let n : r ≡ size es = u .rest-is ∙ h .says .count-is in
       let w : take (2 * r) scratch′ ≡ elementWords es = u .handed ∙ says-now (h .says) .elements-are in
       record {
         level = level;
@@ -163,25 +164,25 @@ module _ (σ : Setting) (words : List ℕ) (f : Frame) (way : List Frame) (s lev
       }
 
   -- an underfull block that forms one, in its own slot
-  pub up-with-block : (after scratch scratch′ : List ℕ) (j first n r : ℕ) (g : FormedAt (σ .k) level code (σ .x) j first n es) → s < 1048576
-      → size (forestOf es) + 1 < n + σ .k
+  pub up-with-block : (after scratch scratch′ : List ℕ) (j first n r : ℕ) (g : FormedAt (σ .k) level code (σ .x) j first n es) → s < tagSlots
+      → size es + 1 < n + σ .k
       → HandedUpBlock (σ .layout) s j (blockCode j (σ .x)) first n words after scratch scratch′ r → PendingAbove σ after scratch′ f way s r
   up-with-block after scratch scratch′ j first n r g small few u =
       let o = h .around in
       let x = holds-x σ words (f ∷ way) s level code es free o in
       let same = agree σ words (f ∷ way) s level code es free h after (u .only .others) in
       let d : ℕ = blockCode j (σ .x) in
-      let left : Placed = g .before ⧻ blockThen s j d (g .run) (g .after) in
-      let ew : elementsIn (slotPart (widthIn σ) words s) ≡ elementWords (g .before ⧻ (g .run ⧻ g .after)) = says-now (h .says) .elements-are ∙ ap elementWords (g .is) in
-      let parts : size (forestOf es) ≡ first + (n + size (forestOf (g .after))) =
-      ap (λ (t : Placed). size (forestOf t)) (g .is) ∙ size-placed-join (g .before) (g .run ⧻ g .after)
-      ∙ ap₂ _+_ (g .first-is) (size-placed-join (g .run) (g .after) ∙ ap (λ (i : ℕ). i + size (forestOf (g .after))) (g .size-is)) in
-      let ls : size (forestOf left) ≡ first + suc (size (forestOf (g .after))) =
-      size-placed-join (g .before) (blockThen s j d (g .run) (g .after)) ∙ ap (λ (i : ℕ). i + suc (size (forestOf (g .after)))) (g .first-is) in
-      let st = stands-parts (widthIn σ) words (g .before) (g .run ⧻ g .after) (subst (Stands (widthIn σ) words) (g .is) (o .stands)) in
+      let left : Placed = g .before ⧺ blockAt s j d (g .run) (g .after) in
+      let ew : elementsIn (slotPart (widthIn σ) words s) ≡ elementWords (g .before ⧺ (g .run ⧺ g .after)) = says-now (h .says) .elements-are ∙ ap elementWords (g .is) in
+      let parts : size es ≡ first + (n + size (g .after)) =
+      ap size (g .is) ∙ size-join (g .before) (g .run ⧺ g .after)
+      ∙ ap₂ _+_ (g .first-is) (size-join (g .run) (g .after) ∙ ap (λ (i : ℕ). i + size (g .after)) (g .size-is)) in
+      let ls : size left ≡ first + suc (size (g .after)) =
+      size-join (g .before) (blockAt s j d (g .run) (g .after)) ∙ ap (λ (i : ℕ). i + suc (size (g .after))) (g .first-is) in
+      let st = stands-parts (widthIn σ) words (g .before) (g .run ⧺ g .after) (subst (Stands (widthIn σ) words) (g .is) (o .stands)) in
       let st2 = stands-parts (widthIn σ) words (g .run) (g .after) (st .1) in
       let out : Every (λ t. t ≡ s → ⊥) (slotsOf (g .before) ++ (slotsOf (g .run) ++ slotsOf (g .after))) =
-      subst (Every (λ t. t ≡ s → ⊥)) (ap slotsOf (g .is) ∙ slots-join (g .before) (g .run ⧻ g .after) ∙ ap (λ (l : List ℕ). slotsOf (g .before) ++ l) (slots-join (g .run) (g .after)))
+      subst (Every (λ t. t ≡ s → ⊥)) (ap slotsOf (g .is) ∙ slots-join (g .before) (g .run ⧺ g .after) ∙ ap (λ (l : List ℕ). slotsOf (g .before) ++ l) (slots-join (g .run) (g .after)))
       (elements-elsewhere σ words (f ∷ way) s level code es free o) in
       let out2 = every-right _ (slotsOf (g .before)) (slotsOf (g .run) ++ slotsOf (g .after)) out in
       let says : SlotSays (slotPart (widthIn σ) after s) j d (g .run) =
@@ -200,11 +201,10 @@ module _ (σ : Setting) (words : List ℕ) (f : Frame) (way : List Frame) (s lev
             (record {
               few = omega arith;
               some = omega (arith, ls);
-              arranged = subst (Arranged (σ .k) level code (code + 4 ^ level)) (sym (forest-join (g .before) (blockThen s j d (g .run) (g .after)))) (g .right .arranged);
-              same-pixels = ap pixels (forest-join (g .before) (blockThen s j d (g .run) (g .after)))
-                  ∙ pixels-join (forestOf (g .before)) (block j d (forestOf (g .run)) (forestOf (g .after))) ∙ sym (pixels-of g);
+              arranged = g .right s .arranged;
+              same-pixels = pixels-join (g .before) (blockAt s j d (g .run) (g .after)) ∙ sym (pixels-of g);
               frames-stand = frames-kept (widthIn σ) words after (f ∷ way) s level code (same (waySlots (f ∷ way)) (way-elsewhere σ words (f ∷ way) s level code es free o)) (o .frames-stand);
-              stands = stands-join (widthIn σ) after (g .before) (blockThen s j d (g .run) (g .after))
+              stands = stands-join (widthIn σ) after (g .before) (blockAt s j d (g .run) (g .after))
                   (frame (widthIn σ) words after (g .before) (same (slotsOf (g .before)) (every-left _ (slotsOf (g .before)) (slotsOf (g .run) ++ slotsOf (g .after)) out)) (st .0)) (
                     small,
                     says,
@@ -219,33 +219,32 @@ module _ (σ : Setting) (words : List ℕ) (f : Frame) (way : List Frame) (s lev
             ∙ block-words (g .before) (g .run) (g .after) s j d first n (g .first-is) (g .size-is);
       }
     where
-      run-words : elementsIn (slotPart (widthIn σ) words s) ≡ elementWords (g .before ⧻ (g .run ⧻ g .after)) → (q : FormedAt (σ .k) level code (σ .x) j first n es)
+      run-words : elementsIn (slotPart (widthIn σ) words s) ≡ elementWords (g .before ⧺ (g .run ⧺ g .after)) → (q : FormedAt (σ .k) level code (σ .x) j first n es)
           → runWords (elementsIn (slotPart (widthIn σ) words s)) first n ≡ elementWords (g .run)
       run-words ew q = ap (λ (l : List ℕ). runWords l first n) ew ∙ middle-words (g .before) (g .run) (g .after) first n (g .first-is) (g .size-is)
 
-      pixels-of : (q : FormedAt (σ .k) level code (σ .x) j first n es) → pixels (forestOf es) ≡ pixels (forestOf (q .before)) ++ (pixels (forestOf (q .run)) ++ pixels (forestOf (q .after)))
+      pixels-of : (q : FormedAt (σ .k) level code (σ .x) j first n es) → pixels es ≡ pixels (q .before) ++ (pixels (q .run) ++ pixels (q .after))
       pixels-of q =
-          ap (λ (t : Placed). pixels (forestOf t)) (q .is) ∙ ap pixels (forest-join (q .before) (q .run ⧻ q .after)) ∙ pixels-join (forestOf (q .before)) (forestOf (q .run ⧻ q .after))
-          ∙ ap (λ (l : List ℕ). pixels (forestOf (q .before)) ++ l) (ap pixels (forest-join (q .run) (q .after)) ∙ pixels-join (forestOf (q .run)) (forestOf (q .after)))
+          ap pixels (q .is) ∙ pixels-join (q .before) (q .run ⧺ q .after) ∙ ap (λ (l : List ℕ). pixels (q .before) ++ l) (pixels-join (q .run) (q .after))
 
       counts : (q : FormedAt (σ .k) level code (σ .x) j first n es) (t : ℕ)
-          → occurrences t (slotsOf (q .before ⧻ blockThen s j (blockCode j (σ .x)) (q .run) (q .after)) ++ free) ≡ occurrences t ((s ∷ slotsOf es) ++ free)
+          → occurrences t (slotsOf (q .before ⧺ blockAt s j (blockCode j (σ .x)) (q .run) (q .after)) ++ free) ≡ occurrences t ((s ∷ slotsOf es) ++ free)
       counts q t =
           let u : List ℕ = slotsOf (q .before) in
           let v : List ℕ = slotsOf (q .run) in
           let w : List ℕ = slotsOf (q .after) in
           omega (
             arith,
-            occurrences-join t (slotsOf (q .before ⧻ blockThen s j (blockCode j (σ .x)) (q .run) (q .after))) free,
-            ap (occurrences t) (slots-join (q .before) (blockThen s j (blockCode j (σ .x)) (q .run) (q .after))),
+            occurrences-join t (slotsOf (q .before ⧺ blockAt s j (blockCode j (σ .x)) (q .run) (q .after))) free,
+            ap (occurrences t) (slots-join (q .before) (blockAt s j (blockCode j (σ .x)) (q .run) (q .after))),
             occurrences-join t u (s ∷ (v ++ w)),
             occurrences-join t (s ∷ []) (v ++ w),
             occurrences-join t v w,
             occurrences-join t (s ∷ slotsOf es) free,
             occurrences-join t (s ∷ []) (slotsOf es),
             ap (λ (p : Placed). occurrences t (slotsOf p)) (q .is),
-            ap (occurrences t) (slots-join (q .before) (q .run ⧻ q .after)),
-            occurrences-join t u (slotsOf (q .run ⧻ q .after)),
+            ap (occurrences t) (slots-join (q .before) (q .run ⧺ q .after)),
+            occurrences-join t u (slotsOf (q .run ⧺ q .after)),
             ap (occurrences t) (slots-join (q .run) (q .after)),
           )
 
@@ -253,58 +252,48 @@ module _ (σ : Setting) (words : List ℕ) (way : List Frame) (s level code : �
     (j first n : ℕ) (g : FormedAt (σ .k) level code (σ .x) j first n es) where
   -- the elements with the run as a block in slot t
   abbrev pub formedAs : ℕ → Placed
-  formedAs t = g .before ⧻ blockThen t j (blockCode j (σ .x)) (g .run) (g .after)
+  formedAs t = g .before ⧺ blockAt t j (blockCode j (σ .x)) (g .run) (g .after)
 
-  formed-forest : (t : ℕ) → forestOf (formedAs t) ≡ forestOf (g .before) ⧺ block j (blockCode j (σ .x)) (forestOf (g .run)) (forestOf (g .after))
-  formed-forest t = forest-join (g .before) (blockThen t j (blockCode j (σ .x)) (g .run) (g .after))
-
-  formed-right : (t : ℕ) → LocallyRight (σ .k) level code (forestOf (formedAs t))
-  formed-right t = subst (LocallyRight (σ .k) level code) (sym (formed-forest t)) (g .right)
-
-  elements-are : forestOf es ≡ forestOf (g .before) ⧺ (forestOf (g .run) ⧺ forestOf (g .after))
-  elements-are = ap forestOf (g .is) ∙ forest-join (g .before) (g .run ⧻ g .after) ∙ ap (λ (t : Forest). forestOf (g .before) ⧺ t) (forest-join (g .run) (g .after))
-
-  formed-pixels : (t : ℕ) → pixels (forestOf (formedAs t)) ≡ pixels (forestOf es)
+  formed-pixels : (t : ℕ) → pixels (formedAs t) ≡ pixels es
   formed-pixels t =
-      ap pixels (formed-forest t) ∙ pixels-join (forestOf (g .before)) (block j (blockCode j (σ .x)) (forestOf (g .run)) (forestOf (g .after)))
-      ∙ sym (ap pixels elements-are ∙ pixels-join (forestOf (g .before)) (forestOf (g .run) ⧺ forestOf (g .after))
-      ∙ ap (λ (l : List ℕ). pixels (forestOf (g .before)) ++ l) (pixels-join (forestOf (g .run)) (forestOf (g .after))))
+      pixels-join (g .before) (blockAt t j (blockCode j (σ .x)) (g .run) (g .after))
+      ∙ sym (ap pixels (g .is) ∙ pixels-join (g .before) (g .run ⧺ g .after)
+      ∙ ap (λ (l : List ℕ). pixels (g .before) ++ l) (pixels-join (g .run) (g .after)))
 
   -- how many elements there are then
-  pub formed-size : (t : ℕ) → size (forestOf (formedAs t)) + n ≡ size (forestOf es) + 1
+  pub formed-size : (t : ℕ) → size (formedAs t) + n ≡ size es + 1
   formed-size t =
       omega (
         arith,
-        size-placed-join (g .before) (blockThen t j (blockCode j (σ .x)) (g .run) (g .after)),
-        ap size elements-are,
-        size-join (forestOf (g .before)) (forestOf (g .run) ⧺ forestOf (g .after)),
-        size-join (forestOf (g .run)) (forestOf (g .after)),
+        size-join (g .before) (blockAt t j (blockCode j (σ .x)) (g .run) (g .after)),
+        ap size (g .is),
+        size-join (g .before) (g .run ⧺ g .after),
+        size-join (g .run) (g .after),
         g .size-is,
       )
 
-  one-block-more : (t : ℕ) → blockCount (forestOf (formedAs t)) ≡ suc (blockCount (forestOf es))
+  one-block-more : (t : ℕ) → blockCount (formedAs t) ≡ suc (blockCount es)
   one-block-more t =
       omega (
         arith,
-        ap blockCount (formed-forest t),
-        blockCount-join (forestOf (g .before)) (block j (blockCode j (σ .x)) (forestOf (g .run)) (forestOf (g .after))),
-        ap blockCount elements-are,
-        blockCount-join (forestOf (g .before)) (forestOf (g .run) ⧺ forestOf (g .after)),
-        blockCount-join (forestOf (g .run)) (forestOf (g .after)),
+        blockCount-join (g .before) (blockAt t j (blockCode j (σ .x)) (g .run) (g .after)),
+        ap blockCount (g .is),
+        blockCount-join (g .before) (g .run ⧺ g .after),
+        blockCount-join (g .run) (g .after),
       )
 
   -- a slot for the block is free
-  pub never-without-slot : (after : List ℕ) → (level ≡ σ .m) ⊎ (σ .k ≤ size (forestOf (formedAs 0)))
+  pub never-without-slot : (after : List ℕ) → (level ≡ σ .m) ⊎ (σ .k ≤ size (formedAs 0))
       → (after ≡ words) × (getD words 7 0 < slotsIn σ → levelWord (slotPart (widthIn σ) words (getD words 7 0)) ≡ 0 → ⊥) → ⊥
   never-without-slot after enough missing =
       let o = h .around in
       let x = holds-x σ words way s level code es free o in
-      slot-for-block σ way s level code es (formedAs 0) free (o .frames-right) (x .0) (x .1) (formed-right 0) enough (one-block-more 0)
+      slot-for-block σ way s level code es (formedAs 0) free (o .frames-right) (x .0) (x .1) (g .right 0) enough (one-block-more 0)
       (plug-pixels way s level code (formedAs 0) es (formed-pixels 0) ∙ o .pixels-are) (o .shared)
       (none-free (σ .layout) free words after (every-right _ (waySlots way ++ (s ∷ slotsOf es)) free (o .shared .inside)) missing (o .free-chain))
 
   -- the block stands in the first free slot, and the change is at rest
-  pub at-rest-with-block : (fresh : ℕ) (after : List ℕ) → LayoutFits (σ .layout) words → (level ≡ σ .m) ⊎ (σ .k ≤ size (forestOf (formedAs fresh)))
+  pub at-rest-with-block : (fresh : ℕ) (after : List ℕ) → LayoutFits (σ .layout) words → (level ≡ σ .m) ⊎ (σ .k ≤ size (formedAs fresh))
       → BlockFormed (σ .layout) s j (blockCode j (σ .x)) first n fresh words after → Completed σ after
   at-rest-with-block fresh after fits enough u =
       let o = h .around in
@@ -315,8 +304,8 @@ module _ (σ : Setting) (words : List ℕ) (way : List Frame) (s level code : �
     where
       finish : (fresh : ℕ) (after rest : List ℕ) → free ≡ fresh ∷ rest → FreeSlots (widthIn σ) (set words 7 (nextWord (slotPart (widthIn σ) words fresh))) rest
           → HeadWritten (widthIn σ) 7 (nextWord (slotPart (widthIn σ) words fresh)) words (set words 7 (nextWord (slotPart (widthIn σ) words fresh)))
-          → Around σ words way s level code es free → (code ≤ σ .x) × (σ .x < code + 4 ^ level) → (level ≡ σ .m) ⊎ (σ .k ≤ size (forestOf (formedAs fresh)))
-          → BlockFormed (σ .layout) s j (blockCode j (σ .x)) first n fresh words after → fresh < 1048576 → Completed σ after
+          → Around σ words way s level code es free → (code ≤ σ .x) × (σ .x < code + 4 ^ level) → (level ≡ σ .m) ⊎ (σ .k ≤ size (formedAs fresh))
+          → BlockFormed (σ .layout) s j (blockCode j (σ .x)) first n fresh words after → fresh < tagSlots → Completed σ after
       finish fresh after rest e chain written o x enough u small =
           completed σ after way s level code (formedAs fresh) rest
           (record {
@@ -325,9 +314,9 @@ module _ (σ : Setting) (words : List ℕ) (way : List Frame) (s level code : �
             above = x .0;
             below = x .1;
             says = says-around;
-            stands = stands-join (widthIn σ) after (g .before) (blockThen fresh j d (g .run) (g .after)) (kept (g .before) not-s-before not-f-before (st .0))
+            stands = stands-join (widthIn σ) after (g .before) (blockAt fresh j d (g .run) (g .after)) (kept (g .before) not-s-before not-f-before (st .0))
                 (small, says-new, kept (g .run) not-s-run not-f-run (st2 .0), kept (g .after) not-s-after not-f-after (st2 .1));
-            right = formed-right fresh;
+            right = g .right fresh;
             enough = enough;
             free-chain = free-kept (widthIn σ) (set words 7 next) after rest (word-in-front 8 7 (set words 7 next) after (omega arith) (u .head ∙ sym (written .head)))
                 (every-map _ _ rest (λ t q. written .slots t ∙ q) (same rest (not-s-free .1) (absent fresh rest (omega (arith, once))))) chain;
@@ -345,7 +334,7 @@ module _ (σ : Setting) (words : List ℕ) (way : List Frame) (s level code : �
           not-s-free = subst (Every (λ t. t ≡ s → ⊥)) e (free-elsewhere σ words way s level code es free o)
 
           es-slots : slotsOf es ≡ slotsOf (g .before) ++ (slotsOf (g .run) ++ slotsOf (g .after))
-          es-slots = ap slotsOf (g .is) ∙ slots-join (g .before) (g .run ⧻ g .after) ∙ ap (λ (l : List ℕ). slotsOf (g .before) ++ l) (slots-join (g .run) (g .after))
+          es-slots = ap slotsOf (g .is) ∙ slots-join (g .before) (g .run ⧺ g .after) ∙ ap (λ (l : List ℕ). slotsOf (g .before) ++ l) (slots-join (g .run) (g .after))
 
           -- the fresh slot is in no other place
           once : occurrences fresh (waySlots way) + (occurrences fresh (slotsOf es) + occurrences fresh rest) ≡ 0
@@ -391,13 +380,13 @@ module _ (σ : Setting) (words : List ℕ) (way : List Frame) (s level code : �
           kept : (t : Placed) → Every (λ i. i ≡ s → ⊥) (slotsOf t) → Every (λ i. i ≡ fresh → ⊥) (slotsOf t) → Stands (widthIn σ) words t → Stands (widthIn σ) after t
           kept t p q w = frame (widthIn σ) words after t (same (slotsOf t) p q) w
 
-          st : Stands (widthIn σ) words (g .before) × Stands (widthIn σ) words (g .run ⧻ g .after)
-          st = stands-parts (widthIn σ) words (g .before) (g .run ⧻ g .after) (subst (Stands (widthIn σ) words) (g .is) (o .stands))
+          st : Stands (widthIn σ) words (g .before) × Stands (widthIn σ) words (g .run ⧺ g .after)
+          st = stands-parts (widthIn σ) words (g .before) (g .run ⧺ g .after) (subst (Stands (widthIn σ) words) (g .is) (o .stands))
 
           st2 : Stands (widthIn σ) words (g .run) × Stands (widthIn σ) words (g .after)
           st2 = stands-parts (widthIn σ) words (g .run) (g .after) (st .1)
 
-          ew : elementsIn (slotPart (widthIn σ) words s) ≡ elementWords (g .before ⧻ (g .run ⧻ g .after))
+          ew : elementsIn (slotPart (widthIn σ) words s) ≡ elementWords (g .before ⧺ (g .run ⧺ g .after))
           ew = says-now (h .says) .elements-are ∙ ap elementWords (g .is)
 
           run-words : runWords (elementsIn (slotPart (widthIn σ) words s)) first n ≡ elementWords (g .run)
@@ -432,7 +421,7 @@ module _ (σ : Setting) (words : List ℕ) (way : List Frame) (s level code : �
                 occurrences-join t (w ++ (s ∷ slotsOf (formedAs fresh))) rest,
                 occurrences-join t w (s ∷ slotsOf (formedAs fresh)),
                 occurrences-join t (s ∷ []) (slotsOf (formedAs fresh)),
-                ap (occurrences t) (slots-join (g .before) (blockThen fresh j d (g .run) (g .after))),
+                ap (occurrences t) (slots-join (g .before) (blockAt fresh j d (g .run) (g .after))),
                 occurrences-join t a (fresh ∷ (b ++ c)),
                 occurrences-join t (fresh ∷ []) (b ++ c),
                 occurrences-join t (w ++ (s ∷ slotsOf es)) free,

@@ -5,12 +5,12 @@ use mathlib.Core.Bool.{Bool, true, false}
 use mathlib.Core.Logic.{_⊎_}
 use mathlib.Core.List.{List, [], _∷_}
 use lib.ListN.{length, take, drop}
-use Rattle.pktree.specs.Elements.{size}
+use Rattle.pktree.specs.Elements.{size, blockAt, empty}
 use Rattle.measures.specs.declared.sizes.Layout.{Layout}
 use Rattle.measures.specs.Layout.{LayoutFits, storeEnd}
 use Rattle.measures.specs.Slot.{slotPart, countWord}
 use Rattle.store.specs.Splice.{CanSplice}
-use Rattle.store.specs.Placed.{Placed, nothing, blockThen, forestOf}
+use Rattle.store.specs.Placed.{Placed}
 use Rattle.store.proofs.Standing.{elementWords}
 use Rattle.descent.specs.Way.{Frame}
 use Rattle.rewrite.specs.Rewrite.{SplicedSlot, HandedUpAll}
@@ -59,8 +59,8 @@ pub record PendingAbove (σ : Setting) (words scratch : List ℕ) (f : Frame) (w
   pub code : ℕ
   pub left : Placed
   pub free : List ℕ
-  pub pending : Pending σ words way (f .slot) (f .level) (f .code) (f .before) (blockThen slot level code nothing nothing) left (f .after) free
-  pub count-is : size (forestOf left) ≡ n
+  pub pending : Pending σ words way (f .slot) (f .level) (f .code) (f .before) (blockAt slot level code empty empty) left (f .after) free
+  pub count-is : size left ≡ n
   pub scratch-is : take (2 * n) scratch ≡ elementWords left
 
 abbrev pub SteppedRight : Setting → List ℕ → List ℕ → List Frame → ℕ → Stepped → Type 0
@@ -102,5 +102,5 @@ pub record StepMeets (change : Change) (root : Bool) (slot place removed inserte
   pub bounds : UpTo16 r
   pub scratch-long : length scratch′ ≡ length scratch
   pub right : (σ : Setting) (way : List Frame) (level code : ℕ) (a old new b : Placed) (free : List ℕ) → InSetting σ change root way
-      → size (forestOf a) ≡ place → size (forestOf old) ≡ removed → size (forestOf new) ≡ inserted → take (2 * inserted) scratch ≡ elementWords new
+      → size a ≡ place → size old ≡ removed → size new ≡ inserted → take (2 * inserted) scratch ≡ elementWords new
       → Pending σ before way slot level code a old new b free → SteppedRight σ after scratch′ way slot r

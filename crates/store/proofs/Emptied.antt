@@ -7,7 +7,7 @@ use lib.ListN.{length, getD, take, drop, set}
 use lib.Seq.{take-set-le, getD-set-same, getD-set-other}
 use Rattle.pktree.specs.Lists.{Every}
 use Rattle.pktree.specs.PixelSet.{member}
-use Rattle.pktree.specs.Elements.{empty, give, gather}
+use Rattle.pktree.specs.Elements.{empty, give, gather, blockAt}
 use Rattle.pktree.proofs.Forests.{give-elements}
 use Rattle.measures.specs.declared.sizes.Sizes.{Sizes}
 use Rattle.measures.specs.declared.sizes.Layout.{Layout}
@@ -15,7 +15,6 @@ use Rattle.measures.specs.Sizes.{slotCount, slotWidth, sizesOf, UsableStore}
 use Rattle.measures.specs.Layout.{layoutOf, storeEnd, LaidOut, LayoutFits}
 use Rattle.measures.specs.Slot.{slotPart, levelWord, codeWord, countWord}
 use Rattle.store.specs.Splice.{withHeader}
-use Rattle.store.specs.Placed.{nothing, blockThen}
 use Rattle.store.specs.FreeSlots.{FreeSlots}
 use Rattle.store.specs.Sound.{SlotsShared, Holds}
 use Rattle.store.specs.Emptied.{numbersFrom, AllFree, Emptied}
@@ -47,7 +46,7 @@ header-says (a ∷ b ∷ []) level code count h = absurd (omega arith)
 header-says (a ∷ b ∷ c ∷ part) level code count h = (refl, refl, refl)
 
 -- its tree is the root alone
-pub holds-none : (words : List ℕ) → UsableStore words → SlotSays (slotPart (slotWidth (getD words 2 0)) words 0) (getD words 1 0) 0 nothing
+pub holds-none : (words : List ℕ) → UsableStore words → SlotSays (slotPart (slotWidth (getD words 2 0)) words 0) (getD words 1 0) 0 empty
     → FreeSlots (slotWidth (getD words 2 0)) words (numbersFrom 1 (slotCount (getD words 2 0) (getD words 3 0) - 1)) → getD words 6 0 ≡ 0 → Holds words []
 holds-none words usable says free counted =
     let order : ℕ = getD words 1 0 in
@@ -55,9 +54,9 @@ holds-none words usable says free counted =
     let slots : ℕ = slotCount k (getD words 3 0) in
     let d : suc (order - 1) ≡ order = omega (arith, usable .valid .panel) in
     let n : suc (slots - 1) ≡ slots = omega arith in
-    let r = complete-slot (slotWidth k) words (order - 1) 0 order 0 nothing says tt (omega arith) in
+    let r = complete-slot (slotWidth k) words (order - 1) 0 order 0 empty says tt (omega arith) in
     record {
-      placed = blockThen 0 order 0 nothing nothing;
+      placed = blockAt 0 order 0 empty empty;
       sound = record {
         usable = usable;
         reads = rw d at r;
@@ -98,7 +97,7 @@ store-emptied sizes layout before freed part written usable is laid f header w =
     let chain : FreeSlots width after free = free-kept width freed after free first others (f .chain) in
     record {
       holds = holds-none after (usable-kept before after front long usable)
-          (subst (λ (z : Layout). SlotSays (slotPart (z .width) after 0) (getD after 1 0) 0 nothing) e′
+          (subst (λ (z : Layout). SlotSays (slotPart (z .width) after 0) (getD after 1 0) 0 empty) e′
           (rw root (record { level-is = says .0 ∙ order; code-is = says .1; count-is = says .2; elements-are = refl })))
           (subst (λ (z : Layout). FreeSlots (z .width) after (numbersFrom 1 (z .slots - 1))) e′ chain)
           (getD-set-same written 6 0 0 (omega (arith, usable .long)));

@@ -5,9 +5,9 @@ use native.Mathlib.Omega.{arith}
 use mathlib.Core.Path.{refl}
 use mathlib.Core.List.{List, [], _∷_, _++_}
 use lib.ListN.{replicate}
-use Rattle.pktree.specs.Elements.{gather}
+use Rattle.pktree.specs.Elements.{gather, blockAt, empty, pixel}
 use Rattle.measures.specs.Slot.{slotPart}
-use Rattle.store.specs.Placed.{Placed, nothing, pixelThen, blockThen}
+use Rattle.store.specs.Placed.{Placed}
 use Rattle.store.specs.Reading.{readSlot}
 use Rattle.store.specs.Sound.{Sound, Holds}
 use Rattle.store.proofs.AllFree.{numbers-once, numbers-inside}
@@ -27,7 +27,7 @@ sampleWords =
     ++ freeSlot 0xFFFFFFFF
 
 abbrev pub samplePlaced : Placed
-samplePlaced = blockThen 0 3 0 (blockThen 1 1 0 (pixelThen 0 (pixelThen 1 (pixelThen 2 nothing))) (pixelThen 60 nothing)) nothing
+samplePlaced = blockAt 0 3 0 (blockAt 1 1 0 (pixel 0 (pixel 1 (pixel 2 empty))) (pixel 60 empty)) empty
 
 pub sample-is-sound : Sound sampleWords samplePlaced
 unfolding gather readSlot slotPart

@@ -8,34 +8,36 @@ use mathlib.Core.List.{List, [], _++_, append-nil}
 use lib.ListN.{length, getD}
 use Rattle.pktree.specs.Lists.{Every}
 use Rattle.pktree.specs.Panel.{Panel}
-use Rattle.pktree.specs.Elements.{Forest, empty, pixel, block, size}
-use Rattle.pktree.specs.Tree.{pixels}
+use Rattle.pktree.specs.Elements.{ForestOf, empty, pixel, block, size, blockAt}
+use Rattle.pktree.specs.PixelSet.{member}
+use Rattle.pktree.specs.Tree.{tree, pixels}
 use Rattle.pktree.proofs.Forests.{blockCount}
 use Rattle.pktree.proofs.Arranged.{LocallyRight}
+use Rattle.pktree.proofs.Unlabelled.{pixels-unlabelled, labelled-local}
 use Rattle.pktree.proofs.BlockNumber.{blocks-take-pixels}
 use Rattle.pktree.proofs.LocalLaw.{tree-exactly-local}
 use Rattle.measures.specs.Sizes.{panelOf, slotCount, slotWidth, sizesOf}
 use Rattle.measures.specs.Slot.{slotPart}
-use Rattle.store.specs.Placed.{Placed, nothing, blockThen, forestOf, slotsOf}
+use Rattle.store.specs.Placed.{Placed, forestOf, slotsOf}
 use Rattle.store.specs.Sound.{Sound}
 use Rattle.store.proofs.Standing.{SlotSays, Stands, found, every-left}
 
 pub record SoundView (words : List ℕ) (placed es : Placed) : Type 0 where
-  pub is : placed ≡ blockThen 0 (getD words 1 0) 0 es nothing
+  pub is : placed ≡ blockAt 0 (getD words 1 0) 0 es empty
   pub says : SlotSays (slotPart (slotWidth (getD words 2 0)) words 0) (getD words 1 0) 0 es
   pub stands : Stands (slotWidth (getD words 2 0)) words es
-  pub right : LocallyRight (getD words 2 0) (getD words 1 0) 0 (forestOf es)
+  pub right : LocallyRight (getD words 2 0) (getD words 1 0) 0 es
   pub inside : Every (λ s. s < slotCount (getD words 2 0) (getD words 3 0)) (slotsOf es)
-  pub few : suc (blockCount (forestOf es)) ≤ slotCount (getD words 2 0) (getD words 3 0)
-  pub same-pixels : pixels (forestOf placed) ≡ pixels (forestOf es)
+  pub few : suc (blockCount es) ≤ slotCount (getD words 2 0) (getD words 3 0)
+  pub same-pixels : pixels placed ≡ pixels es
 
-some-element : (f : Forest) → 1 ≤ blockCount f → 1 ≤ size f
+some-element : {A : Type 0} (f : ForestOf A) → 1 ≤ blockCount f → 1 ≤ size f
 some-element empty p = p
 some-element (pixel c f) p = omega arith
-some-element (block i c es f) p = omega arith
+some-element (blockAt v i c es f) p = omega arith
 
 -- a root with at most N pixels has no more blocks than there are slots
-pub slots-suffice : (k m most : ℕ) (es : Forest) → 2 ≤ k → 1 ≤ most → LocallyRight k m 0 es → length (pixels es) ≤ most → suc (blockCount es) ≤ slotCount k most
+pub slots-suffice : {A : Type 0} (k m most : ℕ) (es : ForestOf A) → 2 ≤ k → 1 ≤ most → LocallyRight k m 0 es → length (pixels es) ≤ most → suc (blockCount es) ≤ slotCount k most
 slots-suffice zero m most es h one r n = absurd (omega arith)
 slots-suffice (suc K) m most es h one r n = go (decLe 1 (blockCount es))
   where
@@ -50,26 +52,30 @@ slots-suffice (suc K) m most es h one r n = go (decLe 1 (blockCount es))
         rw e (omega arith)
     go (no p) = omega arith
 
+-- the tree read, without its slots, is the tree of its own pixels
+own-tree : {words : List ℕ} {placed : Placed} → Sound words placed → forestOf placed ≡ tree (panelOf (sizesOf words)) (member (pixels (forestOf placed)))
+own-tree {words} {placed} sound = rw (pixels-unlabelled placed) (sound .is-tree)
+
 pub sound-view : (words : List ℕ) (placed : Placed) → Sound words placed → (es : Placed) × SoundView words placed es
 sound-view words placed sound =
     let f = found (slotWidth (getD words 2 0)) words (getD words 1 0) 0 placed (sound .reads) in
     let es : Placed = f .elements in
     let panel : Panel = panelOf (sizesOf words) in
     let root : forestOf placed ≡ block (f .level) (f .code) (forestOf es) empty = ap forestOf (f .is) in
-    let (g, e, right) = tree-exactly-local panel (forestOf placed) (sound .usable .valid .panel .k-from) .0 (sound .is-tree) in
+    let (g, e, right) = tree-exactly-local panel (forestOf placed) (sound .usable .valid .panel .k-from) .0 (own-tree sound) in
     let el : f .level ≡ getD words 1 0 = cc (root, e) in
     let ec : f .code ≡ 0 = cc (root, e) in
     let eg : g ≡ forestOf es = cc (root, e) in
-    let r : LocallyRight (getD words 2 0) (getD words 1 0) 0 (forestOf es) = subst (LocallyRight (getD words 2 0) (getD words 1 0) 0) eg right in
-    let ep : pixels (forestOf placed) ≡ pixels (forestOf es) = ap pixels root ∙ append-nil (pixels (forestOf es)) in (
+    let r : LocallyRight (getD words 2 0) (getD words 1 0) 0 es = labelled-local (subst (LocallyRight (getD words 2 0) (getD words 1 0) 0) eg right) in
+    let ep : pixels placed ≡ pixels es = ap pixels (f .is) ∙ append-nil (pixels es) in (
       es,
       record {
-        is = f .is ∙ ap₂ (λ (i c : ℕ). blockThen 0 i c es nothing) el ec;
+        is = f .is ∙ ap₂ (λ (i c : ℕ). blockAt 0 i c es empty) el ec;
         says = subst₂ (λ (i c : ℕ). SlotSays (slotPart (slotWidth (getD words 2 0)) words 0) i c es) el ec (f .says);
         stands = f .stands;
         right = r;
         inside = every-left _ (slotsOf es) [] (every-left _ (slotsOf es ++ []) (sound .free) (subst (λ (l : List ℕ). Every (λ s. s < slotCount (getD words 2 0) (getD words 3 0)) (l ++ sound .free)) (ap slotsOf (f .is)) (sound .shared .inside) .1));
-        few = slots-suffice (getD words 2 0) (getD words 1 0) (getD words 3 0) (forestOf es) (sound .usable .valid .panel .k-from) (sound .usable .valid .most-from) r
+        few = slots-suffice (getD words 2 0) (getD words 1 0) (getD words 3 0) es (sound .usable .valid .panel .k-from) (sound .usable .valid .most-from) r
             (subst (λ (l : List ℕ). length l ≤ getD words 3 0) ep (sound .fits));
         same-pixels = ep;
       },

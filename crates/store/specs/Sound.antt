@@ -22,17 +22,17 @@ pub record Sound (words : List ℕ) (placed : Placed) : Type 0 where
   pub usable : UsableStore words
   pub reads : treeOf words ≡ some placed
   -- the tree of instantiated blocks of its own pixels
-  pub is-tree : forestOf placed ≡ tree (panelOf (sizesOf words)) (member (pixels (forestOf placed)))
-  pub fits : length (pixels (forestOf placed)) ≤ getD words 3 0
+  pub is-tree : forestOf placed ≡ tree (panelOf (sizesOf words)) (member (pixels placed))
+  pub fits : length (pixels placed) ≤ getD words 3 0
   -- unused slots are all available again
   pub free : List ℕ
   pub chain : FreeSlots (slotWidth (getD words 2 0)) words free
   pub shared : SlotsShared (slotCount (getD words 2 0) (getD words 3 0)) (slotsOf placed) free
   -- word 6 is the number of pixels
-  pub counted : getD words 6 0 ≡ length (pixels (forestOf placed))
+  pub counted : getD words 6 0 ≡ length (pixels placed)
 
 -- a sound store that holds this set of pixels
 pub record Holds (words set : List ℕ) : Type 0 where
   pub placed : Placed
   pub sound : Sound words placed
-  pub set-is : pixels (forestOf placed) ≡ set
+  pub set-is : pixels placed ≡ set

@@ -7,9 +7,9 @@ use mathlib.Core.Logic.{_⊎_, inl, inr}
 use mathlib.Core.List.{List, [], _∷_, _++_, append-assoc}
 use lib.ListN.{length, getD, take, length-append}
 use Rattle.pktree.specs.Panel.{Aligned}
-use Rattle.pktree.specs.Elements.{Forest, pixel, block, _⧺_, size}
+use Rattle.pktree.specs.Elements.{pixel, block, _⧺_, size, blockAt, empty}
 use Rattle.pktree.specs.Tree.{pixels}
-use Rattle.pktree.proofs.Forests.{pixels-join}
+use Rattle.pktree.proofs.Forests.{pixels-join, size-join}
 use Rattle.pktree.proofs.Counting.{sparse-below}
 use Rattle.pktree.proofs.Arranged.{quarterLevel, Arranged, LocallyRight}
 use Rattle.pktree.proofs.Regroup.{Disturbed}
@@ -17,11 +17,11 @@ use Rattle.pktree.proofs.Edits.{put-in, take-out}
 use Rattle.measures.specs.Sizes.{slotWidth, slotCount, sizesOf, UsableStore}
 use Rattle.measures.specs.Layout.{layoutOf}
 use Rattle.measures.specs.Slot.{slotPart}
-use Rattle.store.specs.Placed.{Placed, nothing, pixelThen, blockThen, _⧻_, forestOf, slotsOf}
+use Rattle.store.specs.Placed.{Placed, slotsOf}
 use Rattle.store.specs.FreeSlots.{occurrences}
 use Rattle.store.specs.Sound.{Sound}
 use Rattle.store.proofs.Standing.{elementWords, SlotSays, Stands}
-use Rattle.store.proofs.PlacedJoin.{forest-join, slots-join, size-placed-join, stands-join, stands-parts}
+use Rattle.store.proofs.PlacedJoin.{slots-join, stands-join, stands-parts}
 use Rattle.store.proofs.FreeChains.{occurrences-join}
 use Rattle.descent.specs.declared.Located.{Located}
 use Rattle.descent.specs.Way.{Frame, plug}
@@ -34,7 +34,7 @@ use Rattle.update.specs.Propagate.{PendingAt}
 
 module _ (k c x : ℕ) (h : 2 ≤ k) (above : c ≤ x) where
   -- elements that are right are right but perhaps around x
-  disturbed-if-right : (n : ℕ) (es : Forest) → 1 ≤ n → Aligned n c → x < c + 4 ^ n → LocallyRight k n c es → Disturbed k (quarterLevel n) c x es
+  disturbed-if-right : (n : ℕ) (es : Placed) → 1 ≤ n → Aligned n c → x < c + 4 ^ n → LocallyRight k n c es → Disturbed k (quarterLevel n) c x es
   disturbed-if-right zero es one aligned below r = absurd (omega arith)
   disturbed-if-right (suc l) es one aligned below r =
       record {
@@ -47,28 +47,28 @@ module _ (k c x : ℕ) (h : 2 ≤ k) (above : c ≤ x) where
       }
 
   -- a pixel put into a block, and one taken out
-  put-disturbs : (n : ℕ) (a b : Forest) → 1 ≤ n → Aligned n c → x < c + 4 ^ n → LocallyRight k n c (a ⧺ b) → Arranged k n c x a → Arranged k n (suc x) (c + 4 ^ n) b
+  put-disturbs : (n : ℕ) (a b : Placed) → 1 ≤ n → Aligned n c → x < c + 4 ^ n → LocallyRight k n c (a ⧺ b) → Arranged k n c x a → Arranged k n (suc x) (c + 4 ^ n) b
       → Disturbed k (quarterLevel n) c x (a ⧺ pixel x b)
   put-disturbs zero a b one aligned below r u v = absurd (omega arith)
   put-disturbs (suc l) a b one aligned below r u v = put-in k l c x h aligned above below (a ⧺ b) a b refl r u v
 
-  taken-right : (n : ℕ) (a b : Forest) → 1 ≤ n → Aligned n c → x < c + 4 ^ n → LocallyRight k n c (a ⧺ pixel x b) → Arranged k n c x a → Arranged k n (suc x) (c + 4 ^ n) b
+  taken-right : (n : ℕ) (a b : Placed) → 1 ≤ n → Aligned n c → x < c + 4 ^ n → LocallyRight k n c (a ⧺ pixel x b) → Arranged k n c x a → Arranged k n (suc x) (c + 4 ^ n) b
       → LocallyRight k n c (a ⧺ b)
   taken-right zero a b one aligned below r u v = absurd (omega arith)
   taken-right (suc l) a b one aligned below r u v = take-out k l c x h aligned above below (a ⧺ pixel x b) a b refl r u v
 
 -- the pixels of a plugged tree: those inside stand between those before the way's end and those after it
-plug-around : (way : List Frame) → (l : List ℕ) × (r : List ℕ) × ((s i d : ℕ) (es : Placed) → pixels (forestOf (plug way s i d es)) ≡ l ++ (pixels (forestOf es) ++ r))
+plug-around : (way : List Frame) → (l : List ℕ) × (r : List ℕ) × ((s i d : ℕ) (es : Placed) → pixels (plug way s i d es) ≡ l ++ (pixels es ++ r))
 plug-around [] = ([], [], (λ s i d es. refl))
 plug-around (f ∷ way) =
     let (l, r, e) = plug-around way in
-    let p : List ℕ = pixels (forestOf (f .before)) in
-    let q : List ℕ = pixels (forestOf (f .after)) in (
+    let p : List ℕ = pixels (f .before) in
+    let q : List ℕ = pixels (f .after) in (
       l ++ p,
       q ++ r,
       (λ s i d es.
-          e (f .slot) (f .level) (f .code) (f .before ⧻ blockThen s i d es (f .after))
-          ∙ ap (λ (t : List ℕ). l ++ (t ++ r)) (ap pixels (forest-join (f .before) (blockThen s i d es (f .after))) ∙ pixels-join (forestOf (f .before)) (block i d (forestOf es) (forestOf (f .after))))
+          e (f .slot) (f .level) (f .code) (f .before ⧺ blockAt s i d es (f .after))
+          ∙ ap (λ (t : List ℕ). l ++ (t ++ r)) (pixels-join (f .before) (blockAt s i d es (f .after)))
           ∙ simp append-assoc),
     )
 
@@ -93,46 +93,46 @@ settingOf words usable x target few =
 
 -- elements between those around the way's end
 between-pixels : (way : List Frame) (a b : Placed)
-    → (l : List ℕ) × (r : List ℕ) × ((s i d : ℕ) (t : Placed) → pixels (forestOf (plug way s i d (a ⧻ (t ⧻ b)))) ≡ l ++ (pixels (forestOf t) ++ r))
+    → (l : List ℕ) × (r : List ℕ) × ((s i d : ℕ) (t : Placed) → pixels (plug way s i d (a ⧺ (t ⧺ b))) ≡ l ++ (pixels t ++ r))
 between-pixels way a b =
     let (l, r, e) = plug-around way in
-    let p : List ℕ = pixels (forestOf a) in
-    let q : List ℕ = pixels (forestOf b) in (
+    let p : List ℕ = pixels a in
+    let q : List ℕ = pixels b in (
       l ++ p,
       q ++ r,
       (λ s i d t.
-          e s i d (a ⧻ (t ⧻ b))
-          ∙ ap (λ (u : List ℕ). l ++ (u ++ r)) (ap pixels (forest-join a (t ⧻ b)) ∙ pixels-join (forestOf a) (forestOf (t ⧻ b)) ∙ ap (λ (u : List ℕ). p ++ u) (ap pixels (forest-join t b) ∙ pixels-join (forestOf t) (forestOf b)))
+          e s i d (a ⧺ (t ⧺ b))
+          ∙ ap (λ (u : List ℕ). l ++ (u ++ r)) (pixels-join a (t ⧺ b) ∙ ap (λ (u : List ℕ). p ++ u) (pixels-join t b))
           ∙ simp append-assoc),
     )
 
 -- what gives way or comes: nothing, or the pixel of the code
 record AtMostPixel (code : ℕ) (t : Placed) : Type 0 where
-  one : size (forestOf t) ≤ 1
+  one : size t ≤ 1
   slots : slotsOf t ≡ []
   stands : (width : ℕ) (words : List ℕ) → Stands width words t
-  named : take (2 * size (forestOf t)) (code ∷ 0 ∷ []) ≡ elementWords t
+  named : take (2 * size t) (code ∷ 0 ∷ []) ≡ elementWords t
 
-no-pixel : (code : ℕ) → AtMostPixel code nothing
+no-pixel : (code : ℕ) → AtMostPixel code empty
 no-pixel code = record { one = omega arith; slots = refl; stands = λ width words. tt; named = refl }
 
-one-pixel : (code : ℕ) → AtMostPixel code (pixelThen code nothing)
+one-pixel : (code : ℕ) → AtMostPixel code (pixel code empty)
 one-pixel code = record { one = omega arith; slots = refl; stands = λ width words. tt; named = refl }
 
 -- pixels have no slots
-same-slots : (code : ℕ) (a b old new : Placed) → AtMostPixel code old → AtMostPixel code new → slotsOf (a ⧻ (new ⧻ b)) ≡ slotsOf (a ⧻ (old ⧻ b))
+same-slots : (code : ℕ) (a b old new : Placed) → AtMostPixel code old → AtMostPixel code new → slotsOf (a ⧺ (new ⧺ b)) ≡ slotsOf (a ⧺ (old ⧺ b))
 same-slots code a b old new o n =
-    slots-join a (new ⧻ b) ∙ ap (λ (l : List ℕ). slotsOf a ++ l) (slots-join new b ∙ ap (λ (l : List ℕ). l ++ slotsOf b) (n .slots ∙ sym (o .slots)) ∙ sym (slots-join old b))
-    ∙ sym (slots-join a (old ⧻ b))
+    slots-join a (new ⧺ b) ∙ ap (λ (l : List ℕ). slotsOf a ++ l) (slots-join new b ∙ ap (λ (l : List ℕ). l ++ slotsOf b) (n .slots ∙ sym (o .slots)) ∙ sym (slots-join old b))
+    ∙ sym (slots-join a (old ⧺ b))
 
 -- the change is pending: where the pixels of `old` stood among those of the set, those of `new` are to stand
 pub record Begins (words : List ℕ) (usable : UsableStore words) (set : List ℕ) (code : ℕ) (slots places : List ℕ) (located : Located) (old new : Placed) : Type 0 where
   pub left : List ℕ
   pub right : List ℕ
-  pub set-was : set ≡ left ++ (pixels (forestOf old) ++ right)
-  pub few : length (left ++ (pixels (forestOf new) ++ right)) ≤ getD words 3 0
-  pub pending : PendingAt (settingOf words usable code (left ++ (pixels (forestOf new) ++ right)) few) words slots places (located .depth) (located .slot) (located .place)
-      (size (forestOf old)) (size (forestOf new)) (code ∷ 0 ∷ [])
+  pub set-was : set ≡ left ++ (pixels old ++ right)
+  pub few : length (left ++ (pixels new ++ right)) ≤ getD words 3 0
+  pub pending : PendingAt (settingOf words usable code (left ++ (pixels new ++ right)) few) words slots places (located .depth) (located .slot) (located .place)
+      (size old) (size new) (code ∷ 0 ∷ [])
 
 module _ (words : List ℕ) (placed : Placed) (sound : Sound words placed) (code : ℕ) {slots places : List ℕ} (located : Located) (h : LocatedIn words placed code slots places located) where
   abbrev k : ℕ
@@ -150,21 +150,21 @@ module _ (words : List ℕ) (placed : Placed) (sound : Sound words placed) (code
   there : OnWay words placed sound (h .way) (located .slot) (located .level) (located .block) (h .es)
   there = on-way words placed sound (h .way) (located .slot) (located .level) (located .block) (h .es) (h .whole)
 
-  begins : (old new : Placed) → AtMostPixel code old → AtMostPixel code new → h .es ≡ a ⧻ (old ⧻ b)
-      → Disturbed k (quarterLevel (located .level)) (located .block) code (forestOf (a ⧻ (new ⧻ b)))
-      → (size (forestOf new) ≡ 0 → LocallyRight k (located .level) (located .block) (forestOf (a ⧻ (new ⧻ b))))
-      → length (pixels (forestOf placed)) + length (pixels (forestOf new)) ≤ length (pixels (forestOf old)) + getD words 3 0
-      → Begins words (sound .usable) (pixels (forestOf placed)) code slots places located old new
+  begins : (old new : Placed) → AtMostPixel code old → AtMostPixel code new → h .es ≡ a ⧺ (old ⧺ b)
+      → Disturbed k (quarterLevel (located .level)) (located .block) code (a ⧺ (new ⧺ b))
+      → (size new ≡ 0 → LocallyRight k (located .level) (located .block) (a ⧺ (new ⧺ b)))
+      → length (pixels placed) + length (pixels new) ≤ length (pixels old) + getD words 3 0
+      → Begins words (sound .usable) (pixels placed) code slots places located old new
   begins old new o n e disturbed right-if-none room =
       let (l, r, pix) = between-pixels (h .way) a b in
-      let target : List ℕ = l ++ (pixels (forestOf new) ++ r) in
-      let whole : placed ≡ plug (h .way) (located .slot) (located .level) (located .block) (a ⧻ (old ⧻ b)) =
+      let target : List ℕ = l ++ (pixels new ++ r) in
+      let whole : placed ≡ plug (h .way) (located .slot) (located .level) (located .block) (a ⧺ (old ⧺ b)) =
       h .whole ∙ ap (plug (h .way) (located .slot) (located .level) (located .block)) e in
-      let was : pixels (forestOf placed) ≡ l ++ (pixels (forestOf old) ++ r) = ap (λ (t : Placed). pixels (forestOf t)) whole ∙ pix (located .slot) (located .level) (located .block) old in
-      let stands = stands-parts width words a (old ⧻ b) (subst (Stands width words) e (there .view .stands)) in
-      let fit : size (forestOf (a ⧻ (old ⧻ b))) ≤ 4 * (k - 1) =
-      subst (λ (t : Placed). size (forestOf t) ≤ 4 * (k - 1)) e
-      (right-size k (located .level) (located .block) (forestOf (h .es)) (sound .usable .valid .panel .k-from) (there .view .aligned) (there .view .right)) in
+      let was : pixels placed ≡ l ++ (pixels old ++ r) = ap pixels whole ∙ pix (located .slot) (located .level) (located .block) old in
+      let stands = stands-parts width words a (old ⧺ b) (subst (Stands width words) e (there .view .stands)) in
+      let fit : size (a ⧺ (old ⧺ b)) ≤ 4 * (k - 1) =
+      subst (λ (t : Placed). size t ≤ 4 * (k - 1)) e
+      (right-size k (located .level) (located .block) (h .es) (sound .usable .valid .panel .k-from) (there .view .aligned) (there .view .right)) in
       record {
         left = l;
         right = r;
@@ -172,10 +172,10 @@ module _ (words : List ℕ) (placed : Placed) (sound : Sound words placed) (code
         few = omega (
           arith,
           ap length was,
-          length-append l (pixels (forestOf old) ++ r),
-          length-append (pixels (forestOf old)) r,
-          length-append l (pixels (forestOf new) ++ r),
-          length-append (pixels (forestOf new)) r,
+          length-append l (pixels old ++ r),
+          length-append (pixels old) r,
+          length-append l (pixels new ++ r),
+          length-append (pixels new) r,
         );
         pending = record {
           way = h .way;
@@ -196,29 +196,29 @@ module _ (words : List ℕ) (placed : Placed) (sound : Sound words placed) (code
             around = record {
               frames-right = there .right;
               frames-stand = there .stand;
-              stands = stands-join width words a (new ⧻ b) (stands .0) (stands-join width words new b (n .stands width words) (stands-parts width words old b (stands .1) .1));
+              stands = stands-join width words a (new ⧺ b) (stands .0) (stands-join width words new b (n .stands width words) (stands-parts width words old b (stands .1) .1));
               level-from = there .view .level-from;
               disturbed = disturbed;
               fits = omega (
                 arith,
                 sound .usable .valid .panel .k-from,
                 n .one,
-                size-placed-join a (new ⧻ b),
-                size-placed-join new b,
-                size-placed-join a (old ⧻ b),
-                size-placed-join old b,
+                size-join a (new ⧺ b),
+                size-join new b,
+                size-join a (old ⧺ b),
+                size-join old b,
               );
               some = some-left (there .enough);
               free-chain = sound .chain;
-              shared = shared-moves (slotCount k (getD words 3 0)) (slotsOf placed) (sound .free) (waySlots (h .way) ++ (located .slot ∷ slotsOf (a ⧻ (new ⧻ b)))) (sound .free) (sound .shared)
+              shared = shared-moves (slotCount k (getD words 3 0)) (slotsOf placed) (sound .free) (waySlots (h .way) ++ (located .slot ∷ slotsOf (a ⧺ (new ⧺ b)))) (sound .free) (sound .shared)
                   (λ t. omega (
                     arith,
                     ap (λ (u : Placed). occurrences t (slotsOf u)) whole,
-                    plug-slots t (h .way) (located .slot) (located .level) (located .block) (a ⧻ (old ⧻ b)),
+                    plug-slots t (h .way) (located .slot) (located .level) (located .block) (a ⧺ (old ⧺ b)),
                     ap (λ (l : List ℕ). occurrences t (located .slot ∷ l)) (same-slots code a b old new o n),
                     occurrences-join t (slotsOf placed) (sound .free),
-                    occurrences-join t (waySlots (h .way) ++ (located .slot ∷ slotsOf (a ⧻ (new ⧻ b)))) (sound .free),
-                    occurrences-join t (waySlots (h .way)) (located .slot ∷ slotsOf (a ⧻ (new ⧻ b))),
+                    occurrences-join t (waySlots (h .way) ++ (located .slot ∷ slotsOf (a ⧺ (new ⧺ b)))) (sound .free),
+                    occurrences-join t (waySlots (h .way)) (located .slot ∷ slotsOf (a ⧺ (new ⧺ b))),
                   ));
               pixels-are = pix (located .slot) (located .level) (located .block) new;
             };
@@ -229,42 +229,42 @@ module _ (words : List ℕ) (placed : Placed) (sound : Sound words placed) (code
         };
       }
     where
-      some-left : (located .level ≡ getD words 1 0) ⊎ (k ≤ size (forestOf (h .es))) → (located .level ≡ getD words 1 0) ⊎ (1 ≤ size (forestOf (a ⧻ (new ⧻ b))))
+      some-left : (located .level ≡ getD words 1 0) ⊎ (k ≤ size (h .es)) → (located .level ≡ getD words 1 0) ⊎ (1 ≤ size (a ⧺ (new ⧺ b)))
       some-left (inl q) = inl q
       some-left (inr q) =
           inr (omega (
             arith,
             sound .usable .valid .panel .k-from,
             o .one,
-            ap (λ (t : Placed). size (forestOf t)) e,
-            size-placed-join a (new ⧻ b),
-            size-placed-join new b,
-            size-placed-join a (old ⧻ b),
-            size-placed-join old b,
+            ap size e,
+            size-join a (new ⧺ b),
+            size-join new b,
+            size-join a (old ⧺ b),
+            size-join old b,
           ))
 
   -- the pixel is to be put in, with room for it
-  pub mark-begins : located .marked ≡ false → length (pixels (forestOf placed)) < getD words 3 0
-      → Begins words (sound .usable) (pixels (forestOf placed)) code slots places located nothing (pixelThen code nothing)
+  pub mark-begins : located .marked ≡ false → length (pixels placed) < getD words 3 0
+      → Begins words (sound .usable) (pixels placed) code slots places located empty (pixel code empty)
   mark-begins out room =
-      let e : h .es ≡ a ⧻ b = h .place .is .1 out in
-      begins nothing (pixelThen code nothing) (no-pixel code) (one-pixel code) e
-      (rw (forest-join a (pixelThen code b)) (put-disturbs k (located .block) code (sound .usable .valid .panel .k-from) (h .holds .0) (located .level) (forestOf a) (forestOf b)
-      (there .view .level-from) (there .view .aligned) (h .holds .1) (subst (LocallyRight k (located .level) (located .block)) (ap forestOf e ∙ forest-join a b) (there .view .right))
-      (h .place .below) (h .place .above)))
+      let e : h .es ≡ a ⧺ b = h .place .is .1 out in
+      begins empty (pixel code empty) (no-pixel code) (one-pixel code) e
+      (put-disturbs k (located .block) code (sound .usable .valid .panel .k-from) (h .holds .0) (located .level) a b
+      (there .view .level-from) (there .view .aligned) (h .holds .1) (subst (LocallyRight k (located .level) (located .block)) e (there .view .right))
+      (h .place .below) (h .place .above))
       (λ none. absurd (omega arith))
       (omega arith)
 
   -- the pixel is to be taken out
-  pub clear-begins : located .marked ≡ true → Begins words (sound .usable) (pixels (forestOf placed)) code slots places located (pixelThen code nothing) nothing
+  pub clear-begins : located .marked ≡ true → Begins words (sound .usable) (pixels placed) code slots places located (pixel code empty) empty
   clear-begins in-set =
-      let e : h .es ≡ a ⧻ pixelThen code b = h .place .is .0 in-set in
-      let right : LocallyRight k (located .level) (located .block) (forestOf (a ⧻ b)) =
-      rw (forest-join a b) (taken-right k (located .block) code (sound .usable .valid .panel .k-from) (h .holds .0) (located .level) (forestOf a) (forestOf b)
-      (there .view .level-from) (there .view .aligned) (h .holds .1) (subst (LocallyRight k (located .level) (located .block)) (ap forestOf e ∙ forest-join a (pixelThen code b)) (there .view .right))
-      (h .place .below) (h .place .above)) in
-      begins (pixelThen code nothing) nothing (one-pixel code) (no-pixel code) e
-      (disturbed-if-right k (located .block) code (sound .usable .valid .panel .k-from) (h .holds .0) (located .level) (forestOf (a ⧻ b))
+      let e : h .es ≡ a ⧺ pixel code b = h .place .is .0 in-set in
+      let right : LocallyRight k (located .level) (located .block) (a ⧺ b) =
+      taken-right k (located .block) code (sound .usable .valid .panel .k-from) (h .holds .0) (located .level) a b
+      (there .view .level-from) (there .view .aligned) (h .holds .1) (subst (LocallyRight k (located .level) (located .block)) e (there .view .right))
+      (h .place .below) (h .place .above) in
+      begins (pixel code empty) empty (one-pixel code) (no-pixel code) e
+      (disturbed-if-right k (located .block) code (sound .usable .valid .panel .k-from) (h .holds .0) (located .level) (a ⧺ b)
       (there .view .level-from) (there .view .aligned) (h .holds .1) right)
       (λ none. right)
       (omega (arith, sound .fits))

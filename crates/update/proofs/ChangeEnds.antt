@@ -9,10 +9,10 @@ use lib.ListN.{length, getD, take, drop, set, length-set, length-append}
 use lib.Seq.{take-set-le, drop-set-lt, getD-set-same, getD-set-other}
 use Rattle.pktree.specs.Panel.{OnPanel}
 use Rattle.pktree.specs.PixelSet.{member, PixelSet, added, removed}
-use Rattle.pktree.specs.Elements.{size}
+use Rattle.pktree.specs.Elements.{size, blockAt, empty, pixel}
 use Rattle.pktree.specs.Tree.{pixels}
 use Rattle.pktree.proofs.Pixels.{pixels-of-tree-are-set}
-use Rattle.pktree.proofs.LocalLaw.{tree-exactly-local}
+use Rattle.pktree.proofs.Unlabelled.{pixels-unlabelled, labelled-tree}
 use Rattle.pktree.proofs.SetChanges.{added-at-place, removed-at-place}
 use Rattle.pktree.proofs.Absurd.{zero-is-not-one}
 use Rattle.measures.specs.declared.sizes.Sizes.{Sizes}
@@ -21,7 +21,7 @@ use Rattle.measures.specs.declared.sizes.Layout.{Layout}
 use Rattle.measures.specs.Layout.{layoutOf, LaidOut}
 use Rattle.store.specs.Opening.{CannotOpen}
 use Rattle.measures.specs.Slot.{slotPart}
-use Rattle.store.specs.Placed.{Placed, nothing, pixelThen, blockThen, forestOf, slotsOf}
+use Rattle.store.specs.Placed.{Placed, slotsOf}
 use Rattle.store.specs.Reading.{readSlot}
 use Rattle.store.specs.Sound.{Holds}
 use Rattle.store.proofs.Standing.{SlotSays, depth-below-level, complete-slot, frame}
@@ -43,8 +43,8 @@ use Rattle.update.proofs.ChangeBegins.{settingOf, Begins, mark-begins, 
 -- what a store holds is a set of pixels
 held-is-set : (words set : List ℕ) → Holds words set → PixelSet (panelOf (sizesOf words)) set
 held-is-set words set h =
-    subst (PixelSet (panelOf (sizesOf words))) (ap pixels (sym (h .sound .is-tree)) ∙ h .set-is)
-    (pixels-of-tree-are-set (panelOf (sizesOf words)) (member (pixels (forestOf (h .placed)))))
+    subst (PixelSet (panelOf (sizesOf words))) (ap pixels (sym (h .sound .is-tree)) ∙ pixels-unlabelled (h .placed) ∙ h .set-is)
+    (pixels-of-tree-are-set (panelOf (sizesOf words)) (member (pixels (h .placed))))
 
 module _ (before mid : List ℕ) (usable : UsableStore before) (code : ℕ) (target : List ℕ) (few : length target ≤ getD before 3 0) (kept : Kept (layoutOf (sizesOf before)) before mid) where
   abbrev after : List ℕ
@@ -65,10 +65,10 @@ module _ (before mid : List ℕ) (usable : UsableStore before) (code : ℕ) (tar
   -- the slots and the chain stand as they stood before the count was written
   module _ (h : Completed (settingOf before usable code target few) mid) where
     abbrev placed : Placed
-    placed = blockThen 0 (getD before 1 0) 0 (h .es) nothing
+    placed = blockAt 0 (getD before 1 0) 0 (h .es) empty
 
-    same-pixels : pixels (forestOf placed) ≡ target
-    same-pixels = append-nil (pixels (forestOf (h .es))) ∙ h .pixels-are
+    same-pixels : pixels placed ≡ target
+    same-pixels = append-nil (pixels (h .es)) ∙ h .pixels-are
 
     slot-stays : (s : ℕ) → slotPart width mid s ≡ slotPart width after s
     slot-stays s = sym (head-word-set width mid 6 (length target) (omega arith) .slots s)
@@ -78,7 +78,7 @@ module _ (before mid : List ℕ) (usable : UsableStore before) (code : ℕ) (tar
         let d : suc (getD before 1 0 - 1) ≡ getD before 1 0 = omega (arith, usable .valid .panel) in
         let r = complete-slot width after (getD before 1 0 - 1) 0 (getD before 1 0) 0 (h .es) (subst (λ (p : List ℕ). SlotSays p (getD before 1 0) 0 (h .es)) (slot-stays 0) (h .root .says))
         (frame width mid after (h .es) (every-of-all _ (slotsOf (h .es)) slot-stays) (h .root .stands))
-        (omega (arith, depth-below-level (getD before 2 0) (getD before 1 0) 0 _ (forestOf (h .es)) (usable .valid .panel .order-from) (h .right .arranged))) in
+        (omega (arith, depth-below-level (getD before 2 0) (getD before 1 0) 0 _ (h .es) (usable .valid .panel .order-from) (h .right .arranged))) in
         rw d at r
 
     holds-target : Holds after target
@@ -91,7 +91,7 @@ module _ (before mid : List ℕ) (usable : UsableStore before) (code : ℕ) (tar
           sound = record {
             usable = usable-after;
             reads = rw (o, k) reads-it;
-            is-tree = rw (o, k) (tree-exactly-local (panelOf (sizesOf before)) (forestOf placed) (usable .valid .panel .k-from) .1 (forestOf (h .es), refl, h .right));
+            is-tree = rw (o, k) (labelled-tree (panelOf (sizesOf before)) 0 (h .es) (usable .valid .panel .k-from) (h .right));
             fits = rw (n, same-pixels) few;
             free = h .free;
             chain = rw k (free-kept width mid after (h .free) (getD-set-other mid 6 7 (length target) 0 (λ e. omega arith)) (every-of-all _ (h .free) slot-stays) (h .free-chain));
@@ -203,11 +203,11 @@ module _ {before slots places : List ℕ} {sizes : Sizes} {layout : Layout} {cod
         }
 
     -- what propagating leaves of a change that began, with the count of the set to come
-    completed-end : (old new : Placed) {mid : List ℕ} {r : Bool} (was : List ℕ) (h : Holds before was) → PropagateMeets change located slots places (size (forestOf old)) (size (forestOf new)) before mid r
-        → (b : Begins before (h .sound .usable) (pixels (forestOf (h .placed))) code slots places located old new) → (count : ℕ) → count ≡ length (b .left ++ (pixels (forestOf new) ++ b .right))
-        → (r ≡ true) × Holds (set mid 6 count) (b .left ++ (pixels (forestOf new) ++ b .right)) × (sizesOf (set mid 6 count) ≡ sizesOf before)
+    completed-end : (old new : Placed) {mid : List ℕ} {r : Bool} (was : List ℕ) (h : Holds before was) → PropagateMeets change located slots places (size old) (size new) before mid r
+        → (b : Begins before (h .sound .usable) (pixels (h .placed)) code slots places located old new) → (count : ℕ) → count ≡ length (b .left ++ (pixels new ++ b .right))
+        → (r ≡ true) × Holds (set mid 6 count) (b .left ++ (pixels new ++ b .right)) × (sizesOf (set mid 6 count) ≡ sizesOf before)
     completed-end old new {mid} was h s b count n =
-        let target : List ℕ = b .left ++ (pixels (forestOf new) ++ b .right) in
+        let target : List ℕ = b .left ++ (pixels new ++ b .right) in
         let kept : Kept (layoutOf (sizesOf before)) before mid = subst (λ (z : Layout). Kept z before mid) layout-is (s .kept) in
         let (told, rest) = s .right (settingOf before (h .sound .usable) code target (b .few))
         (record { layout-is = layout-is; k-is = k-is ∙ ap (λ (z : Sizes). z .k) (u .sizes-are); x-is = refl }) (b .pending) in
@@ -217,7 +217,7 @@ module _ {before slots places : List ℕ} {sizes : Sizes} {layout : Layout} {cod
         → (r ≡ true) × Holds (set mid 6 (getD before 6 0 + 1)) (added code was) × (sizesOf (set mid 6 (getD before 6 0 + 1)) ≡ sizesOf before)
     mark-propagates {mid} s out room was h =
         let b = mark-begins before (h .placed) (h .sound) code located (found was h .1) out (omega (arith, h .sound .counted, most-is)) in
-        let (told, holds, same) = completed-end nothing (pixelThen code nothing) was h s b (getD before 6 0 + 1)
+        let (told, holds, same) = completed-end empty (pixel code empty) was h s b (getD before 6 0 + 1)
         (omega (arith, h .sound .counted, ap length (b .set-was), length-append (b .left) (b .right), length-append (b .left) (code ∷ b .right))) in
         let set-is : b .left ++ (code ∷ b .right) ≡ added code was =
         sym (added-at-place code 0 (b .left) (b .right) (held-is-set _ _ holds .ascending)) ∙ ap (added code) (sym (b .set-was) ∙ h .set-is) in
@@ -227,7 +227,7 @@ module _ {before slots places : List ℕ} {sizes : Sizes} {layout : Layout} {cod
         → (r ≡ true) × Holds (set mid 6 (getD before 6 0 - 1)) (removed code was) × (sizesOf (set mid 6 (getD before 6 0 - 1)) ≡ sizesOf before)
     clear-propagates {mid} s e was h =
         let b = clear-begins before (h .placed) (h .sound) code located (found was h .1) e in
-        let (told, holds, same) = completed-end (pixelThen code nothing) nothing was h s b (getD before 6 0 - 1)
+        let (told, holds, same) = completed-end (pixel code empty) empty was h s b (getD before 6 0 - 1)
         (omega (arith, h .sound .counted, ap length (b .set-was), length-append (b .left) (b .right), length-append (b .left) (code ∷ b .right))) in
         let q : was ≡ b .left ++ (code ∷ b .right) = sym (h .set-is) ∙ b .set-was in
         let set-is : b .left ++ b .right ≡ removed code was =

@@ -7,11 +7,10 @@ use mathlib.Core.List.{List, [], _∷_}
 use lib.Dec.{eqb}
 use lib.ListN.{length, getD, take}
 use borrow.Author.Tests.{eqb-true, eqb-false}
-use Rattle.pktree.specs.Elements.{size}
+use Rattle.pktree.specs.Elements.{size, _⧺_, blockAt, empty}
+use Rattle.pktree.proofs.Forests.{size-join}
 use Rattle.measures.specs.declared.sizes.Layout.{Layout}
 use Rattle.measures.specs.Layout.{LayoutFits}
-use Rattle.store.specs.Placed.{nothing, blockThen, forestOf, _⧻_}
-use Rattle.store.proofs.PlacedJoin.{size-placed-join}
 use Rattle.descent.specs.Way.{Frame}
 use Rattle.descent.specs.Located.{PathNames}
 use Rattle.change.proofs.Pending.{Setting, Pending}
@@ -59,7 +58,7 @@ in-setting σ change depth way o e =
 -- a place in a block of a register is far below what a slot can hold
 place-small : (σ : Setting) (words path places : List ℕ) (depth slot place out coming : ℕ) (scratch : List ℕ) → PendingAt σ words path places depth slot place out coming scratch → place ≤ 75
 place-small σ words path places depth slot place out coming scratch p =
-    omega (arith, p .place-is, p .pending .was-fit, σ .k-to, size-placed-join (p .a) (p .old ⧻ p .b))
+    omega (arith, p .place-is, p .pending .was-fit, σ .k-to, size-join (p .a) (p .old ⧺ p .b))
 
 module _ (change : Change) (path places words scratch after scratch′ : List ℕ) (depth slot place out coming : ℕ) (r : Stepped)
     (m : StepMeets change (eqb depth 0) slot place out coming words after scratch scratch′ r) where
@@ -97,13 +96,13 @@ module _ (change : Change) (path places words scratch after scratch′ : List �
       go (f ∷ w) d names s =
           let q : depth - 1 ≡ length w = omega arith in
           let es : getD path (depth - 1) 0 ≡ f .slot = ap (λ (i : ℕ). getD path i 0) q ∙ names .0 in
-          let ep : getD places (depth - 1) 0 ≡ size (forestOf (f .before)) = ap (λ (i : ℕ). getD places i 0) q ∙ names .1 in
+          let ep : getD places (depth - 1) 0 ≡ size (f .before) = ap (λ (i : ℕ). getD places i 0) q ∙ names .1 in
           record {
             way = w;
             level = f .level;
             code = f .code;
             a = f .before;
-            old = blockThen slot (s .level) (s .code) nothing nothing;
+            old = blockAt slot (s .level) (s .code) empty empty;
             new = s .left;
             b = f .after;
             free = s .free;
@@ -113,7 +112,7 @@ module _ (change : Change) (path places words scratch after scratch′ : List �
             removed-is = refl;
             inserted-is = s .count-is;
             scratch-is = s .scratch-is;
-            pending = subst (λ (t : ℕ). Pending σ after w t (f .level) (f .code) (f .before) (blockThen slot (s .level) (s .code) nothing nothing) (s .left) (f .after) (s .free)) (sym es) (s .pending);
+            pending = subst (λ (t : ℕ). Pending σ after w t (f .level) (f .code) (f .before) (blockAt slot (s .level) (s .code) empty empty) (s .left) (f .after) (s .free)) (sym es) (s .pending);
           }
 
   -- so the path names the parent

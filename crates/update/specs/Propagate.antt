@@ -6,7 +6,7 @@ use mathlib.Core.List.{List, [], _∷_}
 use lib.ListN.{length, getD, take}
 use Rattle.pktree.specs.Elements.{size}
 use Rattle.measures.specs.Layout.{LayoutFits}
-use Rattle.store.specs.Placed.{Placed, forestOf}
+use Rattle.store.specs.Placed.{Placed}
 use Rattle.store.proofs.Standing.{elementWords}
 use Rattle.descent.specs.declared.Located.{Located}
 use Rattle.descent.specs.Way.{Frame}
@@ -47,9 +47,9 @@ pub record PendingAt (σ : Setting) (words slots places : List ℕ) (depth slot 
   pub free : List ℕ
   pub depth-is : depth ≡ length way
   pub names : PathNames slots places way
-  pub place-is : size (forestOf a) ≡ place
-  pub removed-is : size (forestOf old) ≡ removed
-  pub inserted-is : size (forestOf new) ≡ inserted
+  pub place-is : size a ≡ place
+  pub removed-is : size old ≡ removed
+  pub inserted-is : size new ≡ inserted
   pub scratch-is : take (2 * inserted) scratch ≡ elementWords new
   pub pending : Pending σ words way slot level code a old new b free
 

@@ -6,16 +6,16 @@ use Rattle.history.proofs.step.Statement.{statement}
 use Rattle.history.proofs.step.Tie as tie
 
 returns : tie.Need-returns
-returns c = rw (c .before .before .before .before .if1 .taken) (mark-step _ _ _ _ _ (c .before .before .mark .ensures))
+returns c = rw (c .before .before .before .before .if1 .taken) (mark-step _ _ _ _ (c .before .before .mark .result) (c .before .before .mark .ensures))
 
 returns-2 : tie.Need-returns-2
-returns-2 c = rw (c .before .before .before .before .if2 .taken) (clear-step _ _ _ _ _ (c .before .before .clear .ensures))
+returns-2 c = rw (c .before .before .before .before .if2 .taken) (clear-step _ _ _ _ (c .before .before .clear .result) (c .before .before .clear .ensures))
 
 returns-3 : tie.Need-returns-3
-returns-3 c = rw (c .before .before .if3 .taken) (ask-step _ _ _ _ (c .ask .ensures))
+returns-3 c = rw (c .before .before .if3 .taken) (ask-step _ _ _ (c .ask .result) (c .ask .ensures))
 
 returns-4 : tie.Need-returns-4
-returns-4 c = rw (c .before .before .if4 .taken) (count-step _ _ _ _ _ _ (c .count .ensures))
+returns-4 c = rw (c .before .before .if4 .taken) (count-step _ _ _ _ _ (c .count .result) (c .count .ensures))
 
 returns-5 : tie.Need-returns-5
 returns-5 c = rw (c .before .before .if5 .taken) (c .list-step .ensures)
@@ -38,7 +38,7 @@ returns-8 c =
     let marks = clears .before .before in
     let number = marks .before .before .before .before .args .call .number in
     rw (ne-eqb number 0 (marks .if1 .left), ne-eqb number 1 (clears .if2 .left), ne-eqb number 2 (asks .if3 .left), ne-eqb number 3 (counts .if4 .left), ne-eqb number 4 (lists .if5 .left), ne-eqb number 5 (saves .if6 .left), ne-eqb number 6 (loads .if7 .left))
-    (check-step _ _ (c .check .ensures))
+    (check-step _ (c .check .result) (c .check .ensures))
 
 pub step-spec : {M : Type 1} → statement M
 step-spec =

@@ -13,12 +13,12 @@ cast-accepted c =
 returns : tie.Need-returns
 returns c =
     let call = c .before .before .before .before .before .ask in
-    record { answered = call .result; meets = call .ensures; are = rw (c .before .before .before .marked .given .1, ← c .before .yes-no .ensures) (c .accepted .ensures) }
+    rw (c .before .before .before .marked .given .1, ← c .before .yes-no .ensures, ← c .accepted .ensures) at (call .ensures)
 
 returns-2 : tie.Need-returns-2
 returns-2 c =
     let call = c .before .before .before .before .ask in
-    record { answered = call .result; meets = call .ensures; are = rw (c .before .before .number .given .1) (c .refused .ensures) }
+    rw (c .before .before .refusal .given .1, ← c .refused .ensures) at (call .ensures)
 
 pub pk-ask-spec : {M : Type 1} → statement M
 pk-ask-spec =

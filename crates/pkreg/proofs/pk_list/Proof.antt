@@ -6,17 +6,17 @@ use Rattle.pkreg.proofs.pk_list.Tie as tie
 returns : tie.Need-returns
 returns c =
     let call = c .before .before .before .before .before .before .list in
-    record { answered = call .result; meets = call .ensures; are = rw (c .before .before .found .given .1) (c .accepted .ensures) }
+    rw (c .before .before .found .given .1, ← c .accepted .ensures) at (call .ensures)
 
 returns-2 : tie.Need-returns-2
 returns-2 c =
     let call = c .before .before .before .before .before .before .list in
-    record { answered = call .result; meets = call .ensures; are = rw (c .before .before .needed .given .1) (c .short .ensures) }
+    rw (c .before .before .needed .given .1, ← c .short .ensures) at (call .ensures)
 
 returns-3 : tie.Need-returns-3
 returns-3 c =
     let call = c .before .before .before .before .before .before .list in
-    record { answered = call .result; meets = call .ensures; are = rw (c .before .before .number .given .1) (c .refused .ensures) }
+    rw (c .before .before .refusal .given .1, ← c .refused .ensures) at (call .ensures)
 
 pub pk-list-spec : {M : Type 1} → statement M
 pk-list-spec =

@@ -19,17 +19,17 @@ cast-short c =
 returns : tie.Need-returns
 returns c =
     let call = c .before .before .before .before .before .before .save in
-    record { answered = call .result; meets = call .ensures; are = rw (c .before .before .length .given .1) (c .accepted .ensures) }
+    rw (c .before .before .length .given .1, ← c .accepted .ensures) at (call .ensures)
 
 returns-2 : tie.Need-returns-2
 returns-2 c =
     let call = c .before .before .before .before .before .before .save in
-    record { answered = call .result; meets = call .ensures; are = rw (c .before .before .needed .given .1) (c .short .ensures) }
+    rw (c .before .before .needed .given .1, ← c .short .ensures) at (call .ensures)
 
 returns-3 : tie.Need-returns-3
 returns-3 c =
     let call = c .before .before .before .before .before .before .save in
-    record { answered = call .result; meets = call .ensures; are = rw (c .before .before .number .given .1) (c .refused .ensures) }
+    rw (c .before .before .refusal .given .1, ← c .refused .ensures) at (call .ensures)
 
 pub pk-save-spec : {M : Type 1} → statement M
 pk-save-spec =

@@ -1,12 +1,13 @@
 -- `register::check` meets its contract: refusal 3 is judged first, then `is_sound` decides.
+use mathlib.Core.Path.{refl}
 use borrow.Author.Needs.{needs}
 use Rattle.measures.proofs.Decides.{decided-true, decided-false}
-use Rattle.register.proofs.Checks.{check-refused, check-sound, check-unsound}
+use Rattle.register.specs.Effect.{passed, stopped}
 use Rattle.register.proofs.check.Statement.{statement}
 use Rattle.register.proofs.check.Tie as tie
 
 returns : tie.Need-returns
-returns c = check-refused (rw (c .enum-told .given .1) at (c .before .before .read-sizes .ensures))
+returns c = stopped (rw (c .enum-told .given .1) at (c .before .before .read-sizes .ensures)) (record { is = refl; same = refl })
 
 is-sound-requires : tie.Need-is-sound-requires
 is-sound-requires c κs =
@@ -15,12 +16,14 @@ is-sound-requires c κs =
     (p .1, p .0)
 
 returns-2 : tie.Need-returns-2
-returns-2 c = check-sound (decided-true (c .if1 .taken) (c .before .is-sound .ensures))
+returns-2 c =
+    let s = c .before in
+    passed (is-sound-requires (s .before) (s .is-sound .lifetimes) .0) (passed (decided-true (c .if1 .taken) (s .is-sound .ensures)) (record { is = refl; same = refl }))
 
 returns-3 : tie.Need-returns-3
 returns-3 c =
     let s = c .before in
-    check-unsound (is-sound-requires (s .before) (s .is-sound .lifetimes) .0) (decided-false (c .if1 .left) (s .is-sound .ensures))
+    passed (is-sound-requires (s .before) (s .is-sound .lifetimes) .0) (stopped (decided-false (c .if1 .left) (s .is-sound .ensures)) (record { is = refl; same = refl }))
 
 pub check-spec : {M : Type 1} → statement M
 check-spec =

@@ -2,7 +2,8 @@
 use mathlib.Core.Path.{refl}
 use borrow.Author.Needs.{needs}
 use Rattle.refusals.specs.Judged.{PixelGiven}
-use Rattle.register.proofs.Changes.{clear-refused, clear-done, clear-unmarked, clear-damaged}
+use Rattle.register.proofs.Refusals.{pixel-refused, pixel-given}
+use Rattle.register.proofs.Changes.{clear-done, clear-unmarked, clear-damaged}
 use Rattle.register.proofs.clear.Statement.{statement}
 use Rattle.register.proofs.clear.Tie as tie
 
@@ -13,7 +14,7 @@ clear-requires c κs =
     ((p .usable, p .sizes-are), p .code-on-panel)
 
 returns : tie.Need-returns
-returns c = clear-refused _ (rw (c .before .number .given .1) at (c .before .before .before .judge-pixel .ensures)) refl
+returns c = pixel-refused refl _ (rw (c .before .refusal .given .1) at (c .before .before .before .judge-pixel .ensures))
 
 -- the pixel that was judged
 pixel : (c : tie.After-clear) → (let s = c .before .before .before in
@@ -24,17 +25,20 @@ pixel c = let s = c .before .before .before in rw (s .sizes .given .1) at (s .be
 returns-2 : tie.Need-returns-2
 returns-2 c =
     let m = c .before .before .before .before in
-    clear-done (pixel m) (rw (c .enum-told .given .1, pixel m .code-is) at (m .clear .ensures))
+    let p = pixel m in
+    pixel-given p (clear-done (p .usable) (rw (c .enum-told .given .1, p .code-is) at (m .clear .ensures)))
 
 returns-3 : tie.Need-returns-3
 returns-3 c =
     let m = c .before .before .before .before in
-    clear-unmarked (pixel m) (rw (c .enum-told2 .given .1, pixel m .code-is) at (m .clear .ensures))
+    let p = pixel m in
+    pixel-given p (clear-unmarked (p .usable) (rw (c .enum-told2 .given .1, p .code-is) at (m .clear .ensures)))
 
 returns-4 : tie.Need-returns-4
 returns-4 c =
     let m = c .before .before .before .before in
-    clear-damaged (pixel m) (rw (c .enum-told3 .given .1, pixel m .code-is) at (m .clear .ensures))
+    let p = pixel m in
+    pixel-given p (clear-damaged (p .usable) (rw (c .enum-told3 .given .1, p .code-is) at (m .clear .ensures)))
 
 pub clear-spec : {M : Type 1} → statement M
 clear-spec =

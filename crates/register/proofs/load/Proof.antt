@@ -1,12 +1,13 @@
 -- `register::load` meets its contract: `read_sizes` decides refusal 3, and each end of loading is passed on with its number.
 use mathlib.Core.Path.{refl}
 use borrow.Author.Needs.{needs}
-use Rattle.register.proofs.Loads.{load-refused, load-done, load-malformed, load-unlike, load-no-set}
+use Rattle.register.specs.Effect.{stopped}
+use Rattle.register.proofs.Loads.{load-done, load-malformed, load-unlike, load-no-set}
 use Rattle.register.proofs.load.Statement.{statement}
 use Rattle.register.proofs.load.Tie as tie
 
 returns : tie.Need-returns
-returns c = load-refused (rw (c .enum-told .given .1) at (c .before .before .read-sizes .ensures)) refl
+returns c = stopped (rw (c .enum-told .given .1) at (c .before .before .read-sizes .ensures)) (record { is = refl; same = refl })
 
 load-requires : tie.Need-load-requires
 load-requires c κs =

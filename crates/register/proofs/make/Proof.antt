@@ -1,18 +1,18 @@
 -- `register::make` meets its contract: the limits and the length are judged before a word is written, and `reset` ensures the empty register.
 use native.Mathlib.Omega.{arith}
-use mathlib.Core.Path.{sym}
+use mathlib.Core.Path.{refl, sym}
 use borrow.Author.Needs.{needs}
 use borrow.Author.Tests.{not-true, not-false}
 use Rattle.measures.proofs.Decides.{decided-true, decided-false}
-use Rattle.register.proofs.Makes.{refused-limits, refused-short, made-empty}
+use Rattle.register.specs.Effect.{passed, stopped}
+use Rattle.register.proofs.Makes.{made-empty}
 use Rattle.register.proofs.make.Statement.{statement}
 use Rattle.register.proofs.make.Tie as tie
 
 returns : tie.Need-returns
 returns c =
     let w = c .before .within-limits in
-    let args = c .before .before .before .args in
-    refused-limits (args .m) (args .k) (args .n) (args .store .now) (decided-false (not-true (w .result) (c .if1 .taken)) (w .ensures))
+    stopped (decided-false (not-true (w .result) (c .if1 .taken)) (w .ensures)) (record { is = refl; same = refl })
 
 layout-of-requires : tie.Need-layout-of-requires
 layout-of-requires c κs =
@@ -21,10 +21,9 @@ layout-of-requires c κs =
 
 returns-2 : tie.Need-returns-2
 returns-2 c =
-    let args = c .before .before .before .before .before .before .args in
-    refused-short (args .m) (args .k) (args .n) (args .store .now)
-    (layout-of-requires (c .before .before .before) (c .before .before .layout-of .lifetimes))
-    (omega (arith, c .if2 .taken, rw (c .before .before .layout-of .ensures .is) at (c .before .store-end .ensures)))
+    passed (layout-of-requires (c .before .before .before) (c .before .before .layout-of .lifetimes))
+    (stopped (λ l. omega (arith, l, c .if2 .taken, rw (c .before .before .layout-of .ensures .is) at (c .before .store-end .ensures)))
+    (record { is = refl; same = refl }))
 
 write-sizes-requires : tie.Need-write-sizes-requires
 write-sizes-requires c κs =
@@ -40,9 +39,8 @@ returns-3 : tie.Need-returns-3
 returns-3 c =
     let r = c .before .before in
     let w = r .before .before .before .before in
-    let args = w .before .before .before .before .before .before .before .before .args in
     let can = write-sizes-requires (w .before) (w .write-sizes .lifetimes) in
-    made-empty (args .m) (args .k) (args .n) (args .store .now) (w .write-sizes .last .0) (r .reset .last .0) (can .0) (can .1) (w .write-sizes .ensures) (r .reset .ensures)
+    passed (can .0) (passed (can .1) (made-empty _ _ (w .write-sizes .last .0) (r .reset .last .0) (w .write-sizes .ensures) (r .reset .ensures)))
 
 pub make-spec : {M : Type 1} → statement M
 make-spec =

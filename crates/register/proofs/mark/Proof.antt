@@ -2,7 +2,8 @@
 use mathlib.Core.Path.{refl}
 use borrow.Author.Needs.{needs}
 use Rattle.refusals.specs.Judged.{PixelGiven}
-use Rattle.register.proofs.Changes.{mark-refused, mark-done, mark-already, mark-full, mark-damaged}
+use Rattle.register.proofs.Refusals.{pixel-refused, pixel-given}
+use Rattle.register.proofs.Changes.{mark-done, mark-already, mark-full, mark-damaged}
 use Rattle.register.proofs.mark.Statement.{statement}
 use Rattle.register.proofs.mark.Tie as tie
 
@@ -13,7 +14,7 @@ mark-requires c κs =
     ((p .usable, p .sizes-are), p .code-on-panel)
 
 returns : tie.Need-returns
-returns c = mark-refused _ (rw (c .before .number .given .1) at (c .before .before .before .judge-pixel .ensures)) refl
+returns c = pixel-refused refl _ (rw (c .before .refusal .given .1) at (c .before .before .before .judge-pixel .ensures))
 
 -- the pixel that was judged
 pixel : (c : tie.After-mark) → (let s = c .before .before .before in
@@ -24,22 +25,26 @@ pixel c = let s = c .before .before .before in rw (s .sizes .given .1) at (s .be
 returns-2 : tie.Need-returns-2
 returns-2 c =
     let m = c .before .before .before .before in
-    mark-done (pixel m) (rw (c .enum-told .given .1, pixel m .code-is) at (m .mark .ensures))
+    let p = pixel m in
+    pixel-given p (mark-done (p .usable) (rw (c .enum-told .given .1, p .code-is) at (m .mark .ensures)))
 
 returns-3 : tie.Need-returns-3
 returns-3 c =
     let m = c .before .before .before .before in
-    mark-already (pixel m) (rw (c .enum-told2 .given .1, pixel m .code-is) at (m .mark .ensures))
+    let p = pixel m in
+    pixel-given p (mark-already (p .usable) (rw (c .enum-told2 .given .1, p .code-is) at (m .mark .ensures)))
 
 returns-4 : tie.Need-returns-4
 returns-4 c =
     let m = c .before .before .before .before in
-    mark-full (pixel m) (rw (c .enum-told3 .given .1, pixel m .code-is) at (m .mark .ensures))
+    let p = pixel m in
+    pixel-given p (mark-full (p .usable) (rw (c .enum-told3 .given .1, p .code-is) at (m .mark .ensures)))
 
 returns-5 : tie.Need-returns-5
 returns-5 c =
     let m = c .before .before .before .before in
-    mark-damaged (pixel m) (rw (c .enum-told4 .given .1, pixel m .code-is) at (m .mark .ensures))
+    let p = pixel m in
+    pixel-given p (mark-damaged (p .usable) (rw (c .enum-told4 .given .1, p .code-is) at (m .mark .ensures)))
 
 pub mark-spec : {M : Type 1} → statement M
 mark-spec =

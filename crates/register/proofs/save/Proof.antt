@@ -1,12 +1,14 @@
 -- `register::save` meets its contract: `read_sizes` decides refusal 3, and the walk's answer and output are passed on.
 use mathlib.Core.Path.{refl}
 use borrow.Author.Needs.{needs}
-use Rattle.register.proofs.Looks.{save-refused, saved-whole, saved-short, saved-damaged}
+use Rattle.saving.specs.declared.Imaged.the-variants.{Whole, TooShort, Unreadable}
+use Rattle.register.specs.Effect.{passed, stopped}
+use Rattle.register.proofs.Looks.{save-walks}
 use Rattle.register.proofs.save.Statement.{statement}
 use Rattle.register.proofs.save.Tie as tie
 
 returns : tie.Need-returns
-returns c = save-refused (rw (c .enum-told .given .1) at (c .before .before .read-sizes .ensures)) refl
+returns c = stopped (rw (c .enum-told .given .1) at (c .before .before .read-sizes .ensures)) (record { is = refl; same = refl })
 
 save-requires : tie.Need-save-requires
 save-requires c κs =
@@ -17,17 +19,20 @@ save-requires c κs =
 returns-2 : tie.Need-returns-2
 returns-2 c =
     let v = c .before .before .before .before .before in
-    saved-whole (save-requires (v .before) (v .save .lifetimes) .0) _ (rw (c .before .length .given .1) at (v .save .ensures))
+    let u = save-requires (v .before) (v .save .lifetimes) .0 in
+    passed u (save-walks u (Whole _) (rw (c .before .length .given .1) at (v .save .ensures)))
 
 returns-3 : tie.Need-returns-3
 returns-3 c =
     let v = c .before .before .before .before .before in
-    saved-short (save-requires (v .before) (v .save .lifetimes) .0) _ (rw (c .before .needed .given .1) at (v .save .ensures))
+    let u = save-requires (v .before) (v .save .lifetimes) .0 in
+    passed u (save-walks u (TooShort _) (rw (c .before .needed .given .1) at (v .save .ensures)))
 
 returns-4 : tie.Need-returns-4
 returns-4 c =
     let v = c .before .before .before .before in
-    saved-damaged (save-requires (v .before) (v .save .lifetimes) .0) (rw (c .enum-told2 .given .1) at (v .save .ensures))
+    let u = save-requires (v .before) (v .save .lifetimes) .0 in
+    passed u (save-walks u Unreadable (rw (c .enum-told2 .given .1) at (v .save .ensures)))
 
 pub save-spec : {M : Type 1} → statement M
 save-spec =

@@ -7,7 +7,7 @@ use Rattle.query.proofs.window.meets.Tie as tie
 returns : tie.Need-returns
 returns c =
     let a = c .before .before in
-    block-tested (a .args .corners) (a .args .level) (a .args .code) (search needs) (a .pre) (c .before .block-around .ensures) (c .has-pixel .ensures)
+    block-tested (a .args .corners) (a .args .level) (a .args .code) (search needs) (c .before .block-around .ensures) (c .has-pixel .ensures)
 
 pub meets-spec : {M : Type 1} → statement M
 meets-spec = tie.close (tie.spec (λ c κs. search needs) (λ c κs. search needs) returns)

@@ -4,12 +4,12 @@ use native.Mathlib.Omega.{arith}
 use mathlib.Core.Path.{_≡_, refl}
 use borrow.Author.Needs.{needs}
 use Rattle.store.specs.declared.elements.Element.the-variants.{Block}
-use Rattle.store.specs.Element.{elementOf}
+use Rattle.store.specs.Element.{elementOf, tagSlots}
 use Rattle.store.proofs.elements.element_at.Statement.{statement}
 use Rattle.store.proofs.elements.element_at.Tie as tie
 
 -- the tag of a block is not 0
-block-of : (code tag : ℕ) → (tag ≡ 0 → ⊥) → Block ((tag - 1) % 1048576) ((tag - 1) / 1048576) code ≡ elementOf code tag
+block-of : (code tag : ℕ) → (tag ≡ 0 → ⊥) → Block ((tag - 1) % tagSlots) ((tag - 1) / tagSlots) code ≡ elementOf code tag
 block-of code zero h = absurd (h refl)
 block-of code (suc tag) h = let e : suc tag - 1 ≡ tag = omega arith in rw e
 

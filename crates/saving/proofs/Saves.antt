@@ -1,0 +1,81 @@
+-- The walk that writes the entries.
+use Prim.Native.Nat.{ℕ, _+_, _≤_, _<_}
+use native.Mathlib.Omega.{arith}
+use native.Mathlib.Numerals.{add-one}
+use mathlib.Core.Path.{_≡_, refl, ap, _∙_}
+use mathlib.Core.List.{List, [], append-nil}
+use lib.ListN.{length, length-append}
+use Rattle.pktree.specs.Elements.{Forest, empty, pixel, block, _⧺_}
+use Rattle.pktree.specs.Entries.{entries}
+use Rattle.pktree.proofs.EntryOrder.{entries-join}
+use Rattle.store.specs.declared.opening.Opening.{Opening}
+use Rattle.store.specs.declared.opening.Opening.the-variants.{Damaged}
+use Rattle.measures.specs.Layout.{LayoutFits}
+use Rattle.walks.specs.Entered.{Entered}
+use Rattle.walks.proofs.Walks.{Walk, InLoop, not-entered, loop-ends, loop-open}
+use Rattle.saving.specs.declared.Saving.{Saving}
+use Rattle.saving.specs.Saving.{putEntry, CanSave, PixelPut, EntriesPut, SaveMeets}
+use Rattle.saving.proofs.EntryWrites.{length-put-entry, put-entries-append}
+
+-- entries behind others
+entries-put-join : {saving : Saving} {s t u : List ℕ × ℕ} {f g : Forest} → EntriesPut saving s f t → EntriesPut saving t g u → EntriesPut saving s (f ⧺ g) u
+entries-put-join {saving} {s} {t} {u} {f} {g} p q =
+    record {
+      says = λ room.
+          let both : length (entries (f ⧺ g)) ≡ length (entries f) + length (entries g) = rw (entries-join f g) (length-append (entries f) (entries g)) in
+          let a = p .says (omega arith) in
+          let b = q .says (omega (arith, a .0)) in
+          (omega (arith, a .0, b .0), rw (entries-join f g, put-entries-append (saving .entries) (s .1) (s .0) (entries f) (entries g), ← a .1, ← a .0) (b .1));
+    }
+
+pub save-walk : {saving : Saving} → Walk (EntriesPut saving)
+save-walk = record { none = λ s. record { says = λ room. (omega arith, refl) }; join = entries-put-join }
+
+pub written-is : {after o : List ℕ} {r n : ℕ} → o ≡ after → n ≡ r → _≡_ {A = List ℕ × ℕ} (o, n) (after, r)
+written-is e f = rw (e, f)
+
+pub no-room : {n code at : ℕ} {before : List ℕ} → n ≤ at → PixelPut n code before before at (n + 1)
+no-room h = record { long = refl; put = λ room. absurd (omega arith) }
+
+pub pixel-put : {n code at : ℕ} {before after : List ℕ} → after ≡ putEntry n at before 0 code → PixelPut n code before after at (at + 1)
+pixel-put {n} {code} {at} {before} e = record { long = ap length e ∙ length-put-entry n at before 0 code; put = λ room. (refl, e) }
+
+pub pixel-saved : {saving : Saving} {before after : List ℕ} {at r c : ℕ} → PixelPut (saving .entries) c before after at r → EntriesPut saving (before, at) (pixel c empty) (after, r)
+pixel-saved h = record { says = λ room. h .put (omega arith) }
+
+-- a block's own entry before those of its elements
+own-entry-first : {saving : Saving} {f : Forest} {before own after : List ℕ} {level code at next : ℕ} → own ≡ putEntry (saving .entries) at before level code
+    → EntriesPut saving (own, at + 1) f (after, next) → EntriesPut saving (before, at) (block level code f empty) (after, next)
+own-entry-first {f = f} {level = level} {code = code} {at = at} e h =
+    record {
+      says = λ room.
+          let n : length (entries (block level code f empty)) ≡ length (entries f) + 1 = omega (arith, length-append (entries f) []) in
+          let a = h .says (omega arith) in
+          (omega (arith, a .0), a .1 ∙ rw (append-nil (entries f), e, add-one at));
+    }
+
+-- a block inside may be saved too
+pub save-within : {saving : Saving} {words : List ℕ} {above slot level code count i : ℕ} {part before output : List ℕ} {s t : List ℕ × ℕ}
+    → InLoop (EntriesPut saving) (saving .layout) words above slot level code count part i s t → CanSave saving words above before → length output ≡ length before
+    → CanSave saving words level output
+save-within to can long = record { fits = can .fits; above-to = omega (arith, to .slot-entered .level-below, can .above-to); long = omega (arith, can .long) }
+
+module _ {saving : Saving} {words : List ℕ} {above slot level code : ℕ} {before : List ℕ} {at : ℕ} where
+  -- even the own entry has no room
+  pub save-full : saving .entries ≤ at → SaveMeets saving words above slot level code before before at (saving .entries + 1)
+  save-full full =
+      record { right = record { right = λ k es low view. record { says = λ room. absurd (omega arith) } }; long = refl; closed = λ shut. omega arith }
+
+  pub save-barred : {o : Opening} → o ≡ Damaged → Entered (saving .layout) words above slot level code o → LayoutFits (saving .layout) words
+      → SaveMeets saving words above slot level code before before at (saving .entries + 1)
+  save-barred e entered fits = record { right = not-entered e entered fits; long = refl; closed = λ shut. omega arith }
+
+  pub save-whole : {count i next : ℕ} {part own after : List ℕ} → own ≡ putEntry (saving .entries) at before level code
+      → InLoop (EntriesPut saving) (saving .layout) words above slot level code count part i (own, at + 1) (after, next) → count ≤ i → length after ≡ length own
+      → SaveMeets saving words above slot level code before after at next
+  save-whole put to end long =
+      record {
+        right = loop-ends to end (λ f p. own-entry-first put p);
+        long = long ∙ ap length put ∙ length-put-entry (saving .entries) at before level code;
+        closed = λ shut. absurd (loop-open to shut);
+      }

@@ -1,0 +1,52 @@
+-- `saving::write_image` meets its contract: the header first, then the walk from the root.
+use native.Mathlib.Omega.{arith}
+use borrow.Author.Needs.{needs}
+use Rattle.measures.proofs.Usable.{sizes-valid}
+use Rattle.saving.proofs.EntryWrites.{length-headed}
+use Rattle.saving.proofs.SaveAnswers.{can-save}
+use Rattle.saving.proofs.write_image.Statement.{statement}
+use Rattle.saving.proofs.write_image.Tie as tie
+
+put-header-requires : tie.Need-put-header-requires
+put-header-requires c κs =
+    let a = c .before .before .before in
+    let valid = sizes-valid (a .pre .0 .0) (a .pre .0 .1) in
+    (omega (arith, a .pre .1 .0), (valid .panel .order-to, valid .panel .k-to))
+
+layout-of-requires : tie.Need-layout-of-requires
+layout-of-requires c κs = let a = c .before .before .before .before .before .before in sizes-valid (a .pre .0 .0) (a .pre .0 .1)
+
+save-block-requires : tie.Need-save-block-requires
+save-block-requires c κs =
+    let laid = c .before .before .before in
+    let headed = laid .before .before .before in
+    let a = headed .before .before .before .before in
+    can-save (a .pre .0 .0) (a .pre .0 .1) (laid .layout-of .ensures)
+    (omega (arith, a .pre .1 .0, length-headed (headed .put-header .ensures) (omega (arith, a .pre .1 .0)), c .before .before .wide .ensures, c .before .wide2 .ensures))
+
+returns : tie.Need-returns
+returns c =
+    let walked = c .before .before in
+    let laid = walked .before .before .before .before in
+    let headed = laid .before .before .before in
+    record {
+      layout = laid .layout-of .result;
+      laid = laid .layout-of .ensures;
+      headed = headed .put-header .last .0;
+      head = headed .put-header .ensures;
+      walk = rw (walked .before .before .before .wide .ensures, walked .before .before .wide2 .ensures) at (walked .save-block .ensures);
+    }
+
+pub write-image-spec : {M : Type 1} → statement M
+write-image-spec =
+    tie.close
+    (tie.spec
+    (λ c. search needs)
+    put-header-requires
+    layout-of-requires
+    (λ c κs. search needs)
+    (λ c κs. search needs)
+    (λ c. search needs)
+    save-block-requires
+    (λ c. search needs)
+    returns)

@@ -1,0 +1,3 @@
+pub mod EnteredSlot
+pub mod Walks
+pub mod RootWalk
