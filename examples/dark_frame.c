@@ -6,6 +6,7 @@
  */
 #include "pkreg.h"
 
+#include <errno.h>
 #include <stdio.h>
 #include <stdlib.h>
 #include <string.h>
@@ -27,16 +28,19 @@ static const int dark_frame[SIDE][SIDE] = {
     {10, 12, 9, 11, 10, 8, 11, 498},
 };
 
-static void stop(const char *what, uint32_t refusal)
+static void stop(const char *what, const char *why)
 {
-    fprintf(stderr, "dark_frame: %s (refusal %u)\n", what, (unsigned)refusal);
+    fprintf(stderr, "dark_frame: %s: %s\n", what, why);
     exit(1);
 }
 
 static void must(const char *call, uint32_t refusal)
 {
-    if (refusal != PK_ACCEPTED)
-        stop(call, refusal);
+    char why[64];
+    if (refusal == PK_ACCEPTED)
+        return;
+    snprintf(why, sizeof why, "refused %u (pkreg.h says what to do)", (unsigned)refusal);
+    stop(call, why);
 }
 
 /* The words to lend, from the library and not from a formula of one's own. */
@@ -44,7 +48,7 @@ static size_t store_words(void)
 {
     uint64_t words = pk_words(K, MOST);
     if (words == 0 || words > sizeof first_store / sizeof first_store[0])
-        stop("the store of this program is too short", PK_STORE_TOO_SHORT);
+        stop("make", "the store of this program is too short for K and MOST");
     return (size_t)words;
 }
 
@@ -103,7 +107,7 @@ static void save_to(const char *path, const uint32_t *store, size_t words)
     must("save", saved.refusal);
     file = fopen(path, "wb");
     if (file == NULL || fwrite(image, 1, saved.first, file) != saved.first || fclose(file) != 0)
-        stop(path, 0);
+        stop(path, strerror(errno));
     printf("saved %u bytes\n", (unsigned)saved.first);
 }
 
@@ -112,7 +116,7 @@ static size_t read_from(const char *path, uint8_t *bytes, size_t most)
     size_t length;
     FILE *file = fopen(path, "rb");
     if (file == NULL)
-        stop(path, 0);
+        stop(path, strerror(errno));
     length = fread(bytes, 1, most, file);
     fclose(file);
     return length;
@@ -140,10 +144,10 @@ static int same_bytes(const char *one, const char *other)
 int main(int count, char **arguments)
 {
     size_t words = store_words();
-    int same;
-    if (count != 3) {
-        fprintf(stderr, "usage: dark_frame FILE1 FILE2\n");
-        return 2;
+    int same, help = count == 2 && strcmp(arguments[1], "--help") == 0;
+    if (help || count != 3) {
+        fprintf(help ? stdout : stderr, "usage: dark_frame FILE1 FILE2 (both are written)\n");
+        return help ? 0 : 2;
     }
     must("make", pk_make(first_store, words, ORDER, K, MOST));
     mark_row_by_row(first_store, words);

@@ -1,13 +1,11 @@
-"""Two laboratories mask the hot pixels of the same dark frame: what dark_frame.c does, in Python, with the same output.
+"""Two laboratories mask the hot pixels of the same dark frame: what dark_frame.c does, in Python, with the same output."""
 
-Usage: python3 examples/dark_frame.py FILE1 FILE2 (both are written; `make lib` first).
-"""
-
+import argparse
 import os
 import sys
 
 sys.path.insert(0, os.path.join(os.path.dirname(os.path.abspath(__file__)), "..", "python"))
-from pkreg import Refusal, Register, pixel_of  # noqa: E402
+from pkreg import LibraryMissing, Refusal, Register, pixel_of  # noqa: E402
 
 ORDER, K, MOST, HOT = 3, 3, 16, 100
 
@@ -84,6 +82,11 @@ def main(first, second):
 
 
 if __name__ == "__main__":
-    if len(sys.argv) != 3:
-        sys.exit("usage: dark_frame.py FILE1 FILE2")
-    sys.exit(main(*sys.argv[1:]))
+    parser = argparse.ArgumentParser(description=__doc__, epilog="Both files are written. Run `make lib` first.")
+    parser.add_argument("first", metavar="FILE1")
+    parser.add_argument("second", metavar="FILE2")
+    arguments = parser.parse_args()
+    try:
+        sys.exit(main(arguments.first, arguments.second))
+    except (LibraryMissing, OSError, Refusal) as error:
+        sys.exit(f"dark_frame.py: {error}")

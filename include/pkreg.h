@@ -1,20 +1,34 @@
 /*
  * pkreg: a register of unfit pixels, kept as a PK-tree in words that the caller lends.
  *
- * A panel of order m has side 2^m; a pixel is (x, y), each from 0 to 2^m - 1. Its code interleaves the bits of both: bit i of x
- * is bit 2i of the code, bit i of y is bit 2i + 1. k (2 to 16) is the number of elements from which on a block of the tree stands by
- * itself; n (1 to 65535) is the most pixels that the register may hold. Two registers of the same m and k that hold the same pixels save
- * the same image, byte for byte.
+ * The panel. A panel of order m (1 to 16) has side 2^m; a pixel is (x, y), each from 0 to 2^m - 1. Its code interleaves the bits of both:
+ * bit i of x is bit 2i of the code, bit i of y is bit 2i + 1. The register holds at most `most` pixels (1 to 65535; N in the
+ * specification).
+ *
+ * The tree. The panel is cut into quarters, these again, and so on down to single pixels; each such square is a block. A block's elements
+ * are what lies directly in it: marked pixels, and smaller blocks of the tree, each of which counts as one element with all that it holds.
+ * The tree has the blocks with k elements or more (k is 2 to 16), and always the root, which is the whole panel. A call opens a block when
+ * it reads the block's elements, so the number of blocks opened is a measure of its work.
+ *
+ * The image. Two registers of the same m and k that hold the same pixels save the same image, byte for byte.
  *
  * What the caller owes to every call:
- *   - a pointer to as many words or bytes as the number beside it says, aligned for its type, and never null, not even beside 0;
+ *   - a pointer to as many words or bytes as the number beside it says, aligned for its type; null is allowed beside a length of 0;
  *   - a store and an image or an output that do not overlap;
- *   - one thread at a time on a store. The library has no state of its own, so different stores need no lock.
+ *   - one thread at a time on a store. The library has no state of its own, so different stores need no lock;
+ *   - 16 KiB of stack. This is tried, not proved: tests/stack_test.c runs every call on 16 KiB, and they use about 4 KiB.
  * Given that, no call can fail in another way than by its refusal: no other argument and no content of the store is asked for
  * beforehand, no call reads or writes past what was lent, and each call ends.
  */
 #ifndef PKREG_H
 #define PKREG_H
+
+/* The version; the Makefile takes it from here. A new MAJOR gives the shared library a new name, so no program meets one that it was not
+   linked for. */
+#define PK_VERSION "1.0.0"
+#define PK_VERSION_MAJOR 1
+#define PK_VERSION_MINOR 0
+#define PK_VERSION_PATCH 0
 
 #include <stddef.h>
 #include <stdint.h>
@@ -30,18 +44,18 @@ extern "C" {
 enum {
     /* The call was done. */
     PK_ACCEPTED = 0,
-    /* pk_make was given m, k or n beyond its limits. Give m from 1 to 16, k from 2 to 16, n from 1 to 65535. */
+    /* pk_make was given m, k or most beyond its limits. Give m from 1 to 16, k from 2 to 16, most from 1 to 65535. */
     PK_BEYOND_LIMITS = 1,
-    /* pk_make was lent too few words. Lend pk_words(k, n) words, or more. */
+    /* pk_make was lent too few words. Lend pk_words(k, most) words, or more. */
     PK_STORE_TOO_SHORT = 2,
-    /* The words are no register, or fewer are lent than pk_words(k, n). Call pk_make first, and lend the same words to every call. After a
-       13 of pk_mark or pk_clear: pk_make, then pk_load of the last image. */
+    /* The words are no register, or fewer are lent than pk_words(k, most). Call pk_make first, and lend the same words to every call. After
+       a 13 of pk_mark or pk_clear: pk_make, then pk_load of the last image. */
     PK_NO_REGISTER = 3,
     /* A coordinate is not on the panel. Give x and y below 2^m. */
     PK_OFF_PANEL = 4,
     /* pk_mark: the pixel is marked already. There is nothing to do. */
     PK_ALREADY_MARKED = 5,
-    /* pk_mark: the register holds n pixels. Clear pixels, or load its image into a register made with a larger n. */
+    /* pk_mark: the register holds as many pixels as it may. Clear some, or load its image into a register made with a larger most. */
     PK_FULL = 6,
     /* pk_clear: the pixel is not marked. There is nothing to do. */
     PK_NOT_MARKED = 7,
@@ -51,13 +65,13 @@ enum {
     PK_OUTPUT_TOO_SHORT = 9,
     /* pk_load: the bytes are fewer than 10, or not as many as their own number of entries asks. Send the file whole. */
     PK_NOT_AN_IMAGE = 10,
-    /* pk_load: the image has another m or k than the register, or more pixels than n. Make a register of the image's sizes. */
+    /* pk_load: the image has another m or k than the register, or more pixels than most. Make a register of the image's sizes. */
     PK_IMAGE_UNLIKE = 11,
-    /* pk_load: no set of pixels has this image, so a byte of it was changed. Ask its sender for it again. */
+    /* pk_load: no set of pixels has this image, so its bytes were changed. Ask its sender for it again. */
     PK_IMAGE_DAMAGED = 12,
-    /* The store's words were changed by something else than these calls. Find who wrote there, then load the last image: pk_load relies
-       on words 0 to 3 only. pk_mark and pk_clear have set word 0 to zero, so that every later call gives 3 until pk_make; the other calls
-       left the store, and the content of their output is free. */
+    /* The store is damaged: its words were changed by something else than these calls. Find who wrote there, then load the last image:
+       pk_load relies on words 0 to 3 only. pk_mark and pk_clear have set word 0 to zero, so that every later call gives 3 until pk_make;
+       the other calls left the store, and the content of their output is free. A damaged store is not always met: pk_check tells. */
     PK_STORE_DAMAGED = 13
 };
 
@@ -66,11 +80,12 @@ typedef struct {
     uint32_t refusal, first, second;
 } pk_answer;
 
-/* The words that a register of this k and n needs; 0 if k or n is beyond its limits. The order m does not matter. */
-uint64_t pk_words(uint32_t k, uint32_t n);
+/* The words that a register of this k and most needs; 0 if k or most is beyond its limits. The order m does not matter. */
+uint64_t pk_words(uint32_t k, uint32_t most);
 
-/* Makes an empty register; words past pk_words(k, n) are never touched, by any call. Refusals 1, 2. */
-uint32_t pk_make(uint32_t *store, size_t words, uint32_t m, uint32_t k, uint32_t n);
+/* Makes an empty register. most: N in the specification, the most pixels the register may hold. Words past pk_words(k, most) are never
+   touched, by any call. Refusals 1, 2. */
+uint32_t pk_make(uint32_t *store, size_t words, uint32_t m, uint32_t k, uint32_t most);
 
 /* Marks a pixel. Refusals 3, 4, 5, 6, 13. */
 uint32_t pk_mark(uint32_t *store, size_t words, uint32_t x, uint32_t y);
@@ -79,26 +94,28 @@ uint32_t pk_mark(uint32_t *store, size_t words, uint32_t x, uint32_t y);
 uint32_t pk_clear(uint32_t *store, size_t words, uint32_t x, uint32_t y);
 
 /* The register holds exactly the image's pixels afterwards. The image is judged whole before a word is written, and only words 0 to 3
-   of the store are relied on, so this also mends a damaged store. Refusals 3, 10, 11, 12. */
+   of the store are relied on, so this also mends a damaged store with these words right. Refusals 3, 10, 11, 12. */
 uint32_t pk_load(uint32_t *store, size_t words, const uint8_t *image, size_t bytes);
 
-/* first: 1 for a marked pixel, else 0. second: the blocks opened, those that contain the pixel. Refusals 3, 4, 13. */
+/* first: 1 for a marked pixel, else 0. second: the blocks opened, which are those of the tree that contain the pixel. Refusals 3, 4, 13. */
 pk_answer pk_ask(const uint32_t *store, size_t words, uint32_t x, uint32_t y);
 
-/* The window from (x0, y0) to (x1, y1), both corners included. first: the marked pixels in it. second: the blocks opened, those that share
-   a pixel with it. Refusals 3, 4, 8, 13. */
+/* The window from (x0, y0) to (x1, y1), both corners included. first: the marked pixels in it. second: the blocks opened, which are those
+   of the tree that share a pixel with it. Refusals 3, 4, 8, 13. */
 pk_answer pk_count(const uint32_t *store, size_t words, uint32_t x0, uint32_t y0, uint32_t x1, uint32_t y1);
 
-/* As pk_count, and writes the code of each found pixel once, rising, to the first words of the output; the rest is unchanged. With 9, first
-   is the words needed; an output of n words is always long enough. Refusals 3, 4, 8, 9, 13. */
+/* As pk_count, and writes the code of each found pixel once, in rising order, to the first words of the output. An accepted call writes no
+   word past the number that it returns, also where the store is damaged. With 9, first is the words needed; an output of `most` words is
+   always long enough. Refusals 3, 4, 8, 9, 13. */
 pk_answer pk_list(const uint32_t *store, size_t words, uint32_t x0, uint32_t y0, uint32_t x1, uint32_t y1,
                   uint32_t *output, size_t output_words);
 
-/* Writes the image to the first bytes of the output; the rest of it is unchanged. first: its length; with 9, the bytes needed. An output
-   of 0 bytes therefore asks for the length. Refusals 3, 9, 13. */
+/* Writes the image to the first bytes of the output. first: the image's length; with 9, the bytes needed, so an output of 0 bytes asks for
+   the length. An accepted call writes no byte past the length that it returns, also where the store is damaged. Refusals 3, 9, 13. */
 pk_answer pk_save(const uint32_t *store, size_t words, uint8_t *output, size_t output_bytes);
 
-/* first: 1 if the store is sound, 0 if its words were changed by something else than these calls. Refusal 3. */
+/* first: 1 if the store is sound, which means that every word the calls rely on fits the tree of one set of pixels; 0 if it is damaged.
+   Refusal 3. */
 pk_answer pk_check(const uint32_t *store, size_t words);
 
 #ifdef __cplusplus

@@ -6,10 +6,10 @@ import os
 import sys
 
 from pictures import PictureError, read_picture, write_picture
-from pkreg import MOST_PIXELS, LibraryMissing, Refusal, Register, code_of, entries_of, pixel_of, sizes_of
+from pkreg import LARGEST_MOST, LibraryMissing, Refusal, Register, __version__, code_of, entries_of, pixel_of, sizes_of
 
 # the image of the most pixels in the most blocks
-LONGEST_IMAGE = 10 + 5 * (2 * MOST_PIXELS)
+LONGEST_IMAGE = 10 + 5 * (2 * LARGEST_MOST)
 PICTURES = """A picture is PBM (name ending .pbm), where 1 is masked, or PGM (.pgm) of greatest value 255, where 255 is masked and 0 is not.
 Column x of row y is pixel (x, y); row 0 is the first row of the file."""
 DIFFERENT, FAILED = 1, 2
@@ -81,9 +81,9 @@ def to_picture(arguments):
 
 def to_image(arguments):
     order, masked = read_picture(arguments.picture)
-    pixels = list(itertools.islice(masked, MOST_PIXELS + 1))
-    if len(pixels) > MOST_PIXELS:
-        raise UserError(f"{arguments.picture}: more masked pixels than the {MOST_PIXELS} that a register holds")
+    pixels = list(itertools.islice(masked, LARGEST_MOST + 1))
+    if len(pixels) > LARGEST_MOST:
+        raise UserError(f"{arguments.picture}: more masked pixels than the {LARGEST_MOST} that a register holds")
     register = Register.make(order, arguments.k, max(len(pixels), 1))
     for x, y in pixels:
         register.mark(x, y)
@@ -101,6 +101,7 @@ def coordinate(text):
 
 def parse(words):
     parser = argparse.ArgumentParser(prog="pkmask", description=__doc__, epilog="Status: 0 done, 1 the images mask differently, 2 an error.")
+    parser.add_argument("--version", action="version", version=f"pkmask {__version__}")
     commands = parser.add_subparsers(metavar="COMMAND", required=True)
 
     def command(name, run, says, *files, **more):

@@ -1,34 +1,39 @@
 """The register of unfit pixels, over the shared library that `make lib` builds.
 
     from pkreg import Register, Refusal
-    register = Register.make(3, 3, 16)    # order m, k, and the most pixels
+    register = Register.make(3, 3, 16)    # order m, k, and the most pixels that it may hold
     register.mark(5, 3)
     register.ask(5, 3)                    # Asked(marked=True, opened=1)
     open("lab.img", "wb").write(register.save())
 
-A refused call raises Refusal, which carries the number, its meaning and, with 9, the length needed.
+A refused call raises Refusal, which carries the number, its meaning and, with 9, the length needed. Beside what is found stands the
+number of blocks opened: the blocks of the tree whose elements the call has read (include/pkreg.h says what these are).
 """
 
 import ctypes
+import operator
 import os
 from typing import NamedTuple
 
+# that of include/pkreg.h; the library is opened by the name that goes with its first number
+__version__ = "1.0.0"
+
 MEANINGS = {
-    1: "m, k or N is beyond its limits: m is 1 to 16, k 2 to 16, N 1 to 65535",
-    2: "the store is too short for k and N",
+    1: "m, k or most is beyond its limits: m is 1 to 16, k 2 to 16, most 1 to 65535",
+    2: "the store is too short for k and most",
     3: "these words are no register",
     4: "a coordinate is not on the panel",
     5: "the pixel is marked already",
-    6: "the register is full: it holds N pixels",
+    6: "the register is full: it holds the most pixels that it may",
     7: "the pixel is not marked",
     8: "the window is reversed: x0 > x1 or y0 > y1",
     9: "the output is too short",
     10: "not an image: under 10 bytes, or not as long as its number of entries asks",
-    11: "the image has another m or k than the register, or more pixels than N",
-    12: "the image is damaged: no set of pixels has it",
+    11: "the image has another m or k than the register, or more pixels than the register may hold",
+    12: "no set of pixels has this image: its bytes were changed",
     13: "the store is damaged: something else wrote to its words",
 }
-MOST_PIXELS = 65535
+LARGEST_MOST = 65535
 HEAD_BYTES = 10
 
 
@@ -83,8 +88,9 @@ _SIGNATURES = {
 
 
 def open_library():
-    """The shared library: PKREG_LIBRARY, or build/libpkreg.so of this repository."""
-    beside = os.path.join(os.path.dirname(os.path.abspath(__file__)), "..", "build", "libpkreg.so")
+    """The shared library: PKREG_LIBRARY, or that of this version in build/ of this repository."""
+    name = "libpkreg.so." + __version__.split(".")[0]
+    beside = os.path.join(os.path.dirname(os.path.abspath(__file__)), "..", "build", name)
     path = os.environ.get("PKREG_LIBRARY") or os.path.normpath(beside)
     try:
         library = ctypes.CDLL(path)
@@ -108,15 +114,16 @@ def _calls():
 
 
 def _number(value):
-    """An argument of 32 bits: ctypes would cut a larger one to another, valid number."""
+    """An argument of 32 bits: ctypes would cut a larger one to another, valid number, and takes no integers of other libraries."""
+    value = operator.index(value)
     if not 0 <= value < 2**32:
         raise ValueError(f"{value} is not a number of 32 bits")
     return value
 
 
-def words(k, n):
-    """The words that a register of this k and N needs; 0 beyond the limits."""
-    return _calls().pk_words(_number(k), _number(n))
+def words(k, most):
+    """The words that a register of this k for so many pixels needs; 0 beyond the limits."""
+    return _calls().pk_words(_number(k), _number(most))
 
 
 def code_of(x, y):
@@ -164,21 +171,21 @@ class Register:
     """A register in words of its own. Use Register.make or Register.from_image."""
 
     def __init__(self, number_of_words):
-        self._words = (ctypes.c_uint32 * max(number_of_words, 1))()
+        self._words = (ctypes.c_uint32 * number_of_words)()
         self._lent = (self._words, len(self._words))
 
     @classmethod
-    def make(cls, m, k, n):
-        """An empty register of order m, with this k, for at most n pixels."""
-        register = cls(words(k, n))
-        register._done(_calls().pk_make(*register._lent, _number(m), _number(k), _number(n)))
+    def make(cls, m, k, most):
+        """An empty register of order m, with this k, for at most so many pixels (N in the specification)."""
+        register = cls(words(k, most))
+        register._done(_calls().pk_make(*register._lent, _number(m), _number(k), _number(most)))
         return register
 
     @classmethod
     def from_image(cls, image):
         """A register of the image's own sizes that holds its pixels, and no room for more."""
         sizes = sizes_of(image)
-        register = cls.make(sizes.order, sizes.k, min(max(sizes.pixels, 1), MOST_PIXELS))
+        register = cls.make(sizes.order, sizes.k, min(max(sizes.pixels, 1), LARGEST_MOST))
         register.load(image)
         return register
 
@@ -190,18 +197,26 @@ class Register:
     def side(self):
         return 2**self.order
 
+    @property
+    def most(self):
+        """The most pixels that the register may hold."""
+        return self._words[3]
+
     def mark(self, x, y):
+        """Marks a pixel; Refusal 5 if it is marked already, 6 if the register is full."""
         self._done(_calls().pk_mark(*self._lent, _number(x), _number(y)))
 
     def clear(self, x, y):
+        """Clears a pixel; Refusal 7 if it is not marked."""
         self._done(_calls().pk_clear(*self._lent, _number(x), _number(y)))
 
     def load(self, image):
-        """The register holds exactly the image's pixels."""
-        lent = (ctypes.c_uint8 * max(len(image), 1)).from_buffer_copy(image or b"\0")
+        """The register holds exactly the image's pixels afterwards."""
+        lent = (ctypes.c_uint8 * len(image)).from_buffer_copy(image)
         self._done(_calls().pk_load(*self._lent, lent, len(image)))
 
     def ask(self, x, y):
+        """Whether the pixel is marked, and the blocks opened."""
         answer = self._answer(_calls().pk_ask(*self._lent, _number(x), _number(y)))
         return Asked(answer.first == 1, answer.second)
 
@@ -211,9 +226,8 @@ class Register:
         return Counted(answer.first, answer.second)
 
     def list(self, x0, y0, x1, y1):
-        """As count, with the code of each found pixel; pixel_of gives its x and y."""
-        most = self._words[3]
-        output = (ctypes.c_uint32 * max(most, 1))()
+        """As count, with the code of each found pixel, in rising order; pixel_of gives its x and y."""
+        output = (ctypes.c_uint32 * self.most)()
         answer = self._answer(_calls().pk_list(*self._lent, *map(_number, (x0, y0, x1, y1)), output, len(output)))
         return Listed(output[: answer.first], answer.second)
 
@@ -227,11 +241,11 @@ class Register:
             return self._save_into(refusal.needed)
 
     def check(self):
-        """Whether the store is sound."""
+        """Whether the store is sound, and not damaged."""
         return self._answer(_calls().pk_check(*self._lent)).first == 1
 
     def _save_into(self, length):
-        output = (ctypes.c_uint8 * max(length, 1))()
+        output = (ctypes.c_uint8 * length)()
         answer = self._answer(_calls().pk_save(*self._lent, output, length))
         return bytes(output[: answer.first])
 

@@ -6,16 +6,17 @@ FAR = 2**32 - 1
 
 
 def sizes(random):
-    """m, k and N: small panels fill up, large ones have long codes."""
+    """m, k and most: small panels fill up, large ones have long codes."""
     m = random.choice((1, 2, 3, 3, 4, 4, 6, 8, 15, 16))
     k = random.choice((2, 2, 3, 3, 4, 5, 8, 16))
-    n = random.choice((1, 3, 9, 30, 50, 70, 100, 300))
-    return m, k, n
+    most = random.choice((1, 3, 9, 30, 50, 70, 100, 300))
+    return m, k, most
 
 
-def beyond(random, m, k, n):
+def beyond(random, m, k, most):
     """Sizes of which one is beyond its limits."""
-    return random.choice(((0, k, n), (17, k, n), (FAR, k, n), (m, 1, n), (m, 17, n), (m, 0, n), (m, k, 0), (m, k, 65536), (m, k, FAR)))
+    wrong_m, wrong_k = [(value, k, most) for value in (0, 17, FAR)], [(m, value, most) for value in (0, 1, 17)]
+    return random.choice(wrong_m + wrong_k + [(m, k, value) for value in (0, 65536, FAR)])
 
 
 def pixel(random, model):
@@ -45,7 +46,7 @@ def window(random, model):
 
 
 def codes(random, model):
-    """A set of pixels, in clusters, that may be one too many for N."""
+    """A set of pixels, in clusters, that may be one too many for the register."""
     panel = 4**model.order
     number = min(random.randrange(model.most + 2), panel, 60)
     chosen, base = set(), random.randrange(panel)

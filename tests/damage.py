@@ -1,112 +1,132 @@
-"""Damaged stores: every call ends within what was lent and tells the truth where it must; load mends the store."""
+"""Damaged stores: every call ends within what was lent and answers as it must; load and make mend the store.
+
+What holds of every call on any store (values in range, zeros, what stays unchanged) is held in subject.py.
+"""
 
 import choices
 from histories import last_look, step
 from lent import octets, words
-from model import MARK, image_of, judge_image, words_needed
+from model import Model, image_of, usable, within, words_needed
+from spoiling import DAMAGES, NO_REGISTER, SPOILED, put_sizes_right
 from subject import Subject, expect
 
-SPOILED = 0xFFFFFFFF
-LOOKING = ("ask", "count", "list", "save")
+WALKING = ("mark", "clear", "ask", "count", "list", "save")
 
 
-def output_for(random, name, model):
+def is_spoiled(store):
+    return all(store[at] == SPOILED for at in range(4, words_needed(store[2], store[3])))
+
+
+def decided(store, numbers):
+    """The refusal 3, 4, 8 or 13 of a call that walks the slots; none where the walk may answer otherwise."""
+    if not usable(store):
+        return 3
+    if any(number >= 2 ** store[1] for number in numbers):
+        return 4
+    if len(numbers) == 4 and (numbers[0] > numbers[2] or numbers[1] > numbers[3]):
+        return 8
+    return 13 if is_spoiled(store) else None
+
+
+def arguments(random, model, name):
+    """The numbers of a call, and its output: none, short, or long enough for anything."""
+    if name == "save":
+        return (), octets(random.randbytes(random.choice((0, 10, 700, 10 + 10 * model.most + 10))))
     if name == "list":
-        return words([7] * random.choice((0, 1, model.most)))
-    return octets(bytes(random.choice((0, 10, 700)))) if name == "save" else None
+        return choices.window(random, model), words([random.getrandbits(32) for _ in range(random.choice((0, 1, model.most + 10)))])
+    return (choices.window if name == "count" else choices.pixel)(random, model), None
+
+
+def walking_call(random, subject, model, name):
+    numbers, output = arguments(random, model, name)
+    due = decided(subject.store, numbers)
+    refusal = subject.call(name, *numbers, output=output)[0]
+    told = refusal if refusal in (3, 4, 8) or due == 13 else None
+    expect(f"{name}{numbers} on a damaged store", told, due)
+    if refusal == 13 and name in ("mark", "clear"):
+        all_give_3(random, subject, model)
+
+
+def make_call(random, subject, model):
+    m, k, most = random.choice(((model.order, model.k, model.most), choices.sizes(random), choices.beyond(random, *choices.sizes(random))))
+    needed = words_needed(k, most) if within("m", m) else 0
+    due = 1 if needed == 0 else 2 if needed > len(subject.store) else 0
+    expect(f"make({m}, {k}, {most}) in damaged words", subject.made(m, k, most), due)
+    return Model(m, k, most) if due == 0 else None
+
+
+def load_call(random, subject, model):
+    """Load relies on words 0 to 3 only."""
+    image, fresh = choices.image(random, model), Model(*(subject.store[at] for at in (1, 2, 3)))
+    due = fresh.load(image) if usable(subject.store) else 3
+    expect(f"load({image.hex()}) into a damaged store", subject.call("load", image=octets(image))[0], due)
+    return fresh if due == 0 else None
+
+
+def check_call(random, subject, model):
+    """A store that is told sound is some set's: save gives its image."""
+    refusal, sound, _ = subject.call("check")
+    expect("check of a damaged store", refusal, 0 if usable(subject.store) else 3)
+    if not sound:
+        return None
+    expect("check of spoiled words", is_spoiled(subject.store), False)
+    subject.tally["told sound"] += 1
+    fresh = Model(*(subject.store[at] for at in (1, 2, 3)))
+    output = octets(bytes(10 + 10 * fresh.most))
+    refusal, length, _ = subject.call("save", output=output)
+    expect("save and load of a store told sound", (refusal, fresh.load(bytes(output.values()[:length]))), (0, 0))
+    return fresh
+
+
+OTHER_CALLS = {"make": make_call, "load": load_call, "check": check_call}
 
 
 def call(random, subject, model, name):
-    """A call with arguments that refusals 4 and 8 do not touch."""
-    side = 2**model.order
-    x, y = random.randrange(side), random.randrange(side)
-    numbers = {"count": (0, 0, x, y), "list": (0, 0, side - 1, side - 1), "save": (), "check": ()}.get(name, (x, y))
-    return subject.call(name, *numbers, output=output_for(random, name, model))
+    """One call; it gives the model of the store where this is sound afterwards, or nothing."""
+    return OTHER_CALLS[name](random, subject, model) if name in OTHER_CALLS else walking_call(random, subject, model, name)
 
 
-def every_call(random, subject, model, expected):
-    """Each call gives this refusal."""
-    for name in ("ask", "count", "list", "save", "mark", "clear"):
-        before = subject.store.content()
-        expect(f"{name} on words that are no sound register", call(random, subject, model, name)[0], expected)
-        subject.store.put_back(before)
-
-
-def spoiled(random, subject, model):
-    """Words 0 to 3 right, all others FFFFFFFF: always 13, and check says no."""
-    for at in range(4, subject.store.length):
-        subject.store[at] = SPOILED
-    expect("check of spoiled words", subject.call("check"), (0, 0, 0))
-    every_call(random, subject, model, 13)
+def all_give_3(random, subject, model):
+    """All calls but make, on words that are no register."""
+    for name in WALKING:
+        numbers, output = arguments(random, model, name)
+        expect(f"{name} of no register", subject.call(name, *numbers, output=output)[0], 3)
+    expect("check of no register", subject.call("check")[0], 3)
+    expect("load into no register", subject.call("load", image=octets(model.image()))[0], 3)
 
 
 def unusable(random, subject, model):
-    """Refusal 3, to check and load also."""
-    needed = words_needed(model.k, model.most)
-    at, value = random.choice(((0, 0), (0, MARK ^ 1), (1, 0), (1, 17), (2, 1), (2, 17), (3, 0), (3, 65536)))
+    """Wrong sizes, and too few words."""
     wrong = Subject(subject.store.values(), subject.tally)
+    at, value = random.choice(NO_REGISTER)
     wrong.store[at] = value
+    needed = words_needed(model.k, model.most)
     short = Subject(subject.store.values()[: random.choice((0, 4, 7, 8, needed - 1))], subject.tally)
     for other in (wrong, short):
-        every_call(random, other, model, 3)
-        expect("check of no register", other.call("check"), (3, 0, 0))
-        expect("load into no register", other.call("load", image=octets(model.image()))[0], 3)
+        all_give_3(random, other, model)
 
 
-def scatter(random, subject, model):
-    """Some words become any number, or a neighbour's."""
-    for _ in range(random.randint(1, 8)):
-        at = random.randrange(4, subject.store.length)
-        other = subject.store[random.randrange(4, subject.store.length)]
-        subject.store[at] = random.choice((random.getrandbits(32), random.randrange(20), other, SPOILED, subject.store[at] + 1 & SPOILED))
-
-
-def copy_slot(random, subject, model):
-    """One slot's words over another's: two slots claim to be one block."""
-    width = 8 + 10 * (model.k - 1)
-    slots = 1 + (model.most - 1) // (model.k - 1)
-    source, target = 8 + random.randrange(slots) * width, 8 + random.randrange(slots) * width
-    for i in range(width):
-        subject.store[target + i] = subject.store[source + i]
-
-
-def name_each_other(random, subject, model):
-    """Slots whose elements are blocks in other slots, and the own one, by the layout of docs/DECISIONS.md, numbers 8 and 9."""
-    width = 8 + 10 * (model.k - 1)
-    slots = 1 + (model.most - 1) // (model.k - 1)
-    for slot in range(slots):
-        at = 8 + slot * width
-        level = random.randint(1, model.order) if slot else model.order
-        subject.store[at], subject.store[at + 1] = level, 0
-        subject.store[at + 2] = random.randint(0, 5 * (model.k - 1))
-        for element in range(5 * (model.k - 1)):
-            tag = 1 + random.randrange(slots) + random.randint(1, model.order) * 2**20
-            subject.store[at + 8 + 2 * element] = random.choice((0, 0, element))
-            subject.store[at + 9 + 2 * element] = random.choice((tag, tag, 0))
-
-
-def after_thirteen(random, subject, model):
-    """Mark and clear set word 0 to zero, so that later calls give 3."""
-    for name in ("mark", "clear"):
-        before = subject.store.content()
-        if call(random, subject, model, name)[0] == 13:
-            every_call(random, subject, model, 3)
-        subject.store.put_back(before)
-
-
-def told_sound(random, subject, model):
-    """The store was told sound: then it is some set's, and the calls answer for that set."""
-    output = octets(bytes(10 + 10 * model.most + 10))
-    refusal, length, _ = subject.call("save", output=output)
-    image = bytes(output.values()[:length])
-    expect("save and judge of a store told sound", (refusal, judge_image(model.order, model.k, model.most, image)[0]), (0, 0))
-    model.load(image)
-    for name in ("ask", "count", "list", "mark", "clear", "save"):
-        step(random, subject, model, name)
+def further_calls(random, subject, model):
+    """Random calls one after the other, with more damage now and then; where the store is mended, some calls on it as on a sound one."""
+    for _ in range(random.randint(10, 30)):
+        kind = random.random()
+        if kind < 0.08:
+            random.choice(DAMAGES)(random, subject, model)
+        elif kind < 0.3:
+            put_sizes_right(subject, model)
+        fresh = call(random, subject, model, random.choice(WALKING + WALKING + tuple(OTHER_CALLS)))
+        if fresh:
+            model = fresh
+            for name in ("mark", "mark", "list", "clear", "save"):
+                step(random, subject, model, name)
+            last_look(subject, model)
+            random.choice(DAMAGES)(random, subject, model)
+    return model
 
 
 def mend(random, subject, model):
-    """Load relies on words 0 to 3 only."""
+    """An image is loaded at last."""
+    put_sizes_right(subject, model)
     chosen = choices.codes(random, model)
     while len(chosen) > model.most:
         chosen.pop()
@@ -116,16 +136,12 @@ def mend(random, subject, model):
 
 
 def damaged_store(random, subject, model):
-    """One damage of a sound store, all calls on it, and its mending."""
+    """A sound store is damaged, all calls are tried on it, and it is mended."""
     unusable(random, subject, model)
-    kind = random.choice((spoiled, scatter, scatter, copy_slot, name_each_other))
-    kind(random, subject, model)
+    random.choice(DAMAGES)(random, subject, model)
     subject.tally["damaged stores"] += 1
-    if subject.call("check")[1]:
-        subject.tally["told sound"] += 1
-        told_sound(random, subject, model)
-    else:
-        for name in LOOKING:
-            call(random, subject, model, name)
-        after_thirteen(random, subject, model)
-    mend(random, subject, model)
+    for name in WALKING + tuple(OTHER_CALLS):
+        before = subject.store.content()
+        call(random, subject, model, name)
+        subject.store.put_back(before)
+    mend(random, subject, further_calls(random, subject, model))

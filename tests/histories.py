@@ -10,14 +10,14 @@ LOOKS = ("ask",) * 3 + ("count",) * 2 + ("list",) * 2 + ("save", "check")
 PHASES = (("mark",) * 16 + LOOKS, ("mark",) * 3 + ("clear",) * 14 + LOOKS, ("mark",) * 8 + ("clear",) * 6 + ("load",) * 3 + LOOKS)
 
 
-def made(random, m, k, n, tally):
+def made(random, m, k, most, tally):
     """A register fresh from make, in words that held anything; make's refusals come first."""
-    length = words_needed(k, n)
+    length = words_needed(k, most)
     subject = Subject([random.getrandbits(32) for _ in range(length + random.randrange(4))], tally)
-    expect("make beyond limits", subject.made(*choices.beyond(random, m, k, n)), 1)
+    expect("make beyond limits", subject.made(*choices.beyond(random, m, k, most)), 1)
     short = Subject(subject.store.values()[: random.choice((0, 3, 7, 8, length - 1))], tally)
-    expect("make in too few words", short.made(m, k, n), 2)
-    expect(f"make({m}, {k}, {n})", subject.made(m, k, n), 0)
+    expect("make in too few words", short.made(m, k, most), 2)
+    expect(f"make({m}, {k}, {most})", subject.made(m, k, most), 0)
     return subject
 
 
@@ -30,15 +30,15 @@ def list_call(random, subject, model):
     needed = len(model.window(*window)[1])
     output = words([random.getrandbits(32) for _ in range(room(random, needed))])
     told = subject.call("list", *window, output=output)
-    expected, found = model.list(*window, room=output.length)
-    expect(f"list{window} in {output.length} words", (told, sorted(output.values()[: len(found)])), (expected, found))
+    expected, found = model.list(*window, room=len(output))
+    expect(f"list{window} in {len(output)} words", (told, output.values()[: len(found)]), (expected, found))
 
 
 def save_call(random, subject, model):
     output = octets(random.randbytes(room(random, len(model.image()))))
     told = subject.call("save", output=output)
-    expected, written = model.save(output.length)
-    expect(f"save in {output.length} bytes", (told, bytes(output.values()[: len(written)])), (expected, written))
+    expected, written = model.save(len(output))
+    expect(f"save in {len(output)} bytes", (told, bytes(output.values()[: len(written)])), (expected, written))
 
 
 def load_call(random, subject, model):
@@ -74,24 +74,36 @@ def last_look(subject, model):
     return image
 
 
-def same_image_elsewhere(random, model, image, tally):
-    """A register with another N that marks the same pixels in another order has the same image."""
-    n = random.randint(max(len(model.codes), 1), len(model.codes) + 20)
-    subject, other = made(random, model.order, model.k, n, tally), Model(model.order, model.k, n)
-    for code in random.sample(sorted(model.codes), len(model.codes)):
-        expect(f"mark{corner(code)} again", subject.call("mark", *corner(code))[0], other.mark(*corner(code)))
+def another_way(random, model, detours):
+    """Calls that end in the model's pixels: each is marked, in a random order; so many others, and so many of the same, come and go between."""
+    calls = [(random.random(), "mark", code) for code in sorted(model.codes)]
+    for code in {random.randrange(4**model.order) for _ in range(detours)} - model.codes:
+        marked, cleared = sorted((random.random(), random.random()))
+        calls += [(marked, "mark", code), (cleared, "clear", code)]
+    for at, _, code in random.sample(calls[: len(model.codes)], min(detours, len(model.codes))):
+        calls += [(random.uniform(at, 1), "clear", code), (2 + random.random(), "mark", code)]
+    return [(name, corner(code)) for _, name, code in sorted(calls)]
+
+
+def same_image_elsewhere(random, model, image, tally, detours):
+    """A register with another most that comes to the same pixels another way has the same image."""
+    most = random.randint(max(len(model.codes), 1), len(model.codes) + 20) + detours
+    subject, other = made(random, model.order, model.k, most, tally), Model(model.order, model.k, most)
+    for name, pixel in another_way(random, model, detours):
+        expect(f"{name}{pixel} another way", (subject.call(name, *pixel)[0], getattr(other, name)(*pixel)), (0, 0))
     expect("the image of the same pixels", last_look(subject, other), image)
 
 
 def history(random, tally, steps):
     """A whole history; steps counts for whoever looks at a difference."""
-    m, k, n = choices.sizes(random)
-    subject, model = made(random, m, k, n, tally), Model(m, k, n)
+    m, k, most = choices.sizes(random)
+    subject, model = made(random, m, k, most, tally), Model(m, k, most)
     for _ in range(random.randint(1, 5)):
         calls = random.choice(PHASES)
         for _ in range(random.randint(5, 90)):
             steps["step"] += 1
             step(random, subject, model, random.choice(calls))
     image = last_look(subject, model)
-    same_image_elsewhere(random, model, image, tally)
+    same_image_elsewhere(random, model, image, tally, detours=0)
+    same_image_elsewhere(random, model, image, tally, detours=random.randint(1, 12))
     return subject, model

@@ -32,9 +32,9 @@ def holds(store, codes):
     saved = LIBRARY.pk_save(*store.arguments, *output.arguments)
     expect("save", (saved.refusal, saved.first, bytes(output.values()) == image), (0, len(image), True))
     expect("check", LIBRARY.pk_check(*store.arguments).first, 1)
-    found = words(bytes(len(codes)))
+    found = words([7] * (len(codes) + 9))
     listed = LIBRARY.pk_list(*store.arguments, 0, 0, 2**ORDER - 1, 2**ORDER - 1, *found.arguments)
-    expect("list", (listed.refusal, listed.first, sorted(found.values()) == sorted(codes)), (0, len(codes), True))
+    expect("list", (listed.refusal, listed.first, found.values() == sorted(codes) + [7] * 9), (0, len(codes), True))
     return image
 
 

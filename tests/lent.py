@@ -15,11 +15,13 @@ class Lent:
     """A slice of numbers of one type, with GUARD numbers of a pattern on each side."""
 
     def __init__(self, kind, values):
-        self.length = len(values)
-        self._all = (kind * (self.length + 2 * GUARD))(*[0xA5] * GUARD, *values, *[0xA5] * GUARD)
+        self._all = (kind * (len(values) + 2 * GUARD))(*[0xA5] * GUARD, *values, *[0xA5] * GUARD)
         self._width = ctypes.sizeof(kind)
         start = ctypes.addressof(self._all) + GUARD * self._width
-        self.arguments = (ctypes.cast(start, ctypes.POINTER(kind)), self.length)
+        self.arguments = (ctypes.cast(start, ctypes.POINTER(kind)), len(values))
+
+    def __len__(self):
+        return self.arguments[1]
 
     def __getitem__(self, at):
         return self._all[GUARD + at]
@@ -28,7 +30,7 @@ class Lent:
         self._all[GUARD + at] = value
 
     def values(self):
-        return self._all[GUARD : GUARD + self.length]
+        return self._all[GUARD : GUARD + len(self)]
 
     def content(self):
         """All bytes, with the guards: two contents are equal if nothing was written in between."""

@@ -3,7 +3,7 @@
 It shares nothing with the library or with python/: not even the interleaving. It answers as the calls do, (refusal, first, second).
 """
 
-LIMITS = {"m": (1, 16), "k": (2, 16), "n": (1, 65535)}
+LIMITS = {"m": (1, 16), "k": (2, 16), "most": (1, 65535)}
 MARK = 0x504B0001
 
 
@@ -12,11 +12,21 @@ def within(name, value):
     return low <= value <= high
 
 
-def words_needed(k, n):
-    if not (within("k", k) and within("n", n)):
+def slots_for(k, most):
+    return 1 + (most - 1) // (k - 1)
+
+
+def words_needed(k, most):
+    if not (within("k", k) and within("most", most)):
         return 0
-    slots = 1 + (n - 1) // (k - 1)
-    return 8 + slots * (8 + 10 * (k - 1))
+    return 8 + slots_for(k, most) * (8 + 10 * (k - 1))
+
+
+def usable(words):
+    """Whether refusal 3 does not apply."""
+    if len(words) < 8 or words[0] != MARK or not within("m", words[1]):
+        return False
+    return 0 < words_needed(words[2], words[3]) <= len(words)
 
 
 def interleave(x, y):
@@ -52,11 +62,16 @@ class Tree:
         return number
 
 
+def entries_of(order, k, codes):
+    """Pixels and blocks as (level, code), in an image's order."""
+    entries = [(0, code) for code in codes] + Tree(order, k, codes).blocks
+    return sorted(entries, key=lambda entry: (entry[1], -entry[0]))
+
+
 def image_of(order, k, codes):
-    entries = [(code, 0) for code in codes] + [(code, level) for level, code in Tree(order, k, codes).blocks]
-    entries.sort(key=lambda entry: (entry[0], -entry[1]))
+    entries = entries_of(order, k, codes)
     head = bytes((order, k)) + len(entries).to_bytes(4, "little") + len(codes).to_bytes(4, "little")
-    return head + b"".join(code.to_bytes(4, "little") for code, _ in entries) + bytes(level for _, level in entries)
+    return head + b"".join(code.to_bytes(4, "little") for _, code in entries) + bytes(level for level, _ in entries)
 
 
 def judge_image(order, k, most, image):
@@ -142,7 +157,7 @@ class Model:
         return refusal, len(found), opened
 
     def list(self, *window, room):
-        """The answer, and the codes that are written, in any order."""
+        """The answer, and the codes that are written, in rising order: so the header promises."""
         refusal, found, opened = self.window(*window)
         if not refusal and len(found) > room:
             return (9, len(found), 0), []

@@ -42,7 +42,7 @@ def cases():
     yield first.window(4, 4, 7, 7), (0, [60], 1)
     yield first.ask(8, 0), (4, 0, 0)
     yield (interleave(5, 3), interleave(65535, 65535)), (27, 4294967295)
-    yield [words_needed(k, n) for k, n in ((3, 9), (1, 9), (17, 9), (3, 0), (3, 65536))], [148, 0, 0, 0, 0]
+    yield [words_needed(k, most) for k, most in ((3, 9), (1, 9), (17, 9), (3, 0), (3, 65536))], [148, 0, 0, 0, 0]
     full = holding(3, 3, range(9))
     yield (full.mark(0, 0), full.mark(7, 7)), (5, 6)
 

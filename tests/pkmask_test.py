@@ -49,8 +49,8 @@ pixel code 1: x 1, y 0
 pixel code 2: x 0, y 1
 pixel code 60: x 6, y 6
 """
-LIMITS = "refused 1: m, k or N is beyond its limits: m is 1 to 16, k 2 to 16, N 1 to 65535"
-DAMAGED = "not a whole image: refused 12: the image is damaged: no set of pixels has it"
+LIMITS = "refused 1: m, k or most is beyond its limits: m is 1 to 16, k 2 to 16, most 1 to 65535"
+CHANGED = "not a whole image: refused 12: no set of pixels has this image: its bytes were changed"
 CUT = "not a whole image: refused 10: not an image: under 10 bytes, or not as long as its number of entries asks"
 
 # the words, the status, and what is written: to the output with status 0 and 1, as the one line of error with 2
@@ -70,7 +70,7 @@ RUNS = [
     ("show missing.img", 2, "missing.img: No such file or directory"),
     ("show cut.img", 2, f"cut.img: {CUT}"),
     ("show empty.img", 2, f"empty.img: {CUT}"),
-    ("show changed.img", 2, f"changed.img: {DAMAGED}"),
+    ("show changed.img", 2, f"changed.img: {CHANGED}"),
     ("show text.img", 2, f"text.img: not a whole image: {LIMITS}"),
     ("list first.img 0 0 8 0", 2, "refused 4: a coordinate is not on the panel"),
     ("list first.img 4 0 3 0", 2, "refused 8: the window is reversed: x0 > x1 or y0 > y1"),

@@ -3,7 +3,7 @@
 import collections
 
 from lent import LIBRARY, words
-from model import words_needed
+from model import slots_for, words_needed
 
 CHANGING = ("make", "mark", "clear", "load")
 REFUSALS = {
@@ -17,6 +17,13 @@ REFUSALS = {
     "save": (3, 9, 13),
     "check": (3,),
 }
+
+
+def largest_values(name, m, k, most):
+    """The largest first and second value of an answer, whatever the store holds."""
+    slots = slots_for(k, most)
+    of_window = (most, slots)
+    return {"ask": (1, m), "count": of_window, "list": of_window, "save": (10 + 5 * (most + slots), 0), "check": (1, 0)}[name]
 
 
 class Difference(Exception):
@@ -35,18 +42,19 @@ class Subject:
         self.store = words(values)
         self.tally = tally if tally is not None else collections.Counter()
 
-    def made(self, m, k, n):
+    def made(self, m, k, most):
         """make; the formula's end is kept, since no call may write past it."""
-        return self.call("make", m, k, n, end=words_needed(k, n))[0]
+        return self.call("make", m, k, most, end=words_needed(k, most))[0]
 
     def end(self):
-        """The formula's end by the words' own k and N, or the whole store where they say none."""
-        known = self.store.length >= 4 and words_needed(self.store[2], self.store[3])
-        return min(known or self.store.length, self.store.length)
+        """The formula's end by the words' own k and most, or the whole store where they say none."""
+        known = len(self.store) >= 4 and words_needed(self.store[2], self.store[3])
+        return min(known or len(self.store), len(self.store))
 
     def call(self, name, *numbers, image=None, output=None, end=None):
         """The answer as (refusal, first, second)."""
         end = self.end() if end is None else end
+        sizes = [self.store[at] for at in (1, 2, 3)] if len(self.store) >= 4 else None
         before, untouched = self.store.content(), None if output is None else output.content()
         lent = [*self.store.arguments, *numbers]
         for part in (image, output):
@@ -56,6 +64,8 @@ class Subject:
         self.tally[name] += 1
         self.tally[told[0]] += 1
         self._hold(name, numbers, told, before, end)
+        if name not in CHANGING and told[0] in (0, 9):
+            self._hold_values(name, told, sizes)
         if output is not None:
             self._hold_output(name, told, output, untouched)
         return told
@@ -75,12 +85,19 @@ class Subject:
             expect(f"{what}: zeros", told[1:], (0, 0))
 
     @staticmethod
+    def _hold_values(name, told, sizes):
+        largest = largest_values(name, *sizes)
+        expect(f"pk_{name} gives {told}: at most {largest}", told[1] <= largest[0] and told[2] <= largest[1], True)
+
+    @staticmethod
     def _hold_output(name, told, output, untouched):
         refusal, first, _ = told
         if refusal == 0:
-            expect(f"pk_{name}: {first} of {output.length} fit", first <= output.length, True)
+            expect(f"pk_{name}: {first} of {len(output)} fit", first <= len(output), True)
             expect(f"pk_{name}: the rest of the output", output.same_from(first, untouched), True)
         elif refusal == 13:
-            expect(f"pk_{name}: past the output", output.same_from(output.length, untouched), True)
+            expect(f"pk_{name}: past the output", output.same_from(len(output), untouched), True)
         else:
             expect(f"pk_{name}: the output is unchanged", output.content() == untouched, True)
+        if refusal == 9:
+            expect(f"pk_{name}: {len(output)} are fewer than the {first} needed", len(output) < first, True)

@@ -1,0 +1,79 @@
+"""The Python module: its results, its refusals as exceptions, and the numbers that it takes."""
+
+import os
+import subprocess
+import sys
+
+PYTHON = os.path.join(os.path.dirname(os.path.abspath(__file__)), "..", "python")
+sys.path.insert(0, PYTHON)
+import pkreg  # noqa: E402
+from pkreg import Refusal, Register  # noqa: E402
+
+
+class Whole:
+    """An integer of another library, as those of an array are."""
+
+    def __init__(self, value):
+        self.value = value
+
+    def __index__(self):
+        return self.value
+
+
+def raised(call, *arguments):
+    """What a call raises: a refusal by its number, anything else by its name."""
+    try:
+        call(*arguments)
+    except Refusal as refusal:
+        return refusal.number, refusal.needed, str(refusal) == f"refused {refusal.number}: {refusal.meaning}"
+    except (TypeError, ValueError) as error:
+        return type(error).__name__
+    return None
+
+
+def without_library():
+    """What is said where the library is not."""
+    program = "import pkreg\ntry:\n    pkreg.words(3, 9)\nexcept pkreg.LibraryMissing as error:\n    print(error)"
+    environment = {**os.environ, "PKREG_LIBRARY": "/nowhere/libpkreg.so", "PYTHONPATH": PYTHON}
+    return subprocess.run([sys.executable, "-c", program], env=environment, capture_output=True, text=True).stdout
+
+
+def cases():
+    """What is told, and what is expected: the specification's first panel."""
+    register = Register.make(3, 3, 9)
+    for x, y in (6, 6), (0, 1), (1, 0), (Whole(0), Whole(0)):
+        register.mark(x, y)
+    yield (register.order, register.side, register.most), (3, 8, 9)
+    yield register.ask(1, 1), pkreg.Asked(marked=False, opened=2)
+    yield register.count(4, 4, 7, 7), pkreg.Counted(found=1, opened=1)
+    yield register.list(0, 0, 7, 7), pkreg.Listed(codes=[0, 1, 2, 60], opened=2)
+    image = register.save()
+    yield pkreg.sizes_of(image), pkreg.Sizes(order=3, k=3, entries=6, pixels=4)
+    yield pkreg.entries_of(image), [(3, 0), (1, 0), (0, 0), (0, 1), (0, 2), (0, 60)]
+    yield Register.from_image(image).save(), image
+    yield (register.check(), pkreg.words(3, 9), pkreg.words(1, 9)), (True, 148, 0)
+    yield raised(register.mark, 0, 0), (5, 0, True)
+    yield raised(register.clear, 3, 3), (7, 0, True)
+    yield raised(register.ask, 8, 0), (4, 0, True)
+    yield raised(register.count, 1, 0, 0, 0), (8, 0, True)
+    yield raised(register.load, b""), (10, 0, True)
+    yield raised(Register.from_image, image[:9]), (10, 0, True)
+    yield [raised(Register.make, *sizes) for sizes in ((0, 3, 9), (3, 17, 9), (3, 3, 65536))], [(1, 0, True)] * 3
+    yield [raised(register.mark, x, 0) for x in (-1, 2**32, 1.5, "1")], ["ValueError", "ValueError", "TypeError", "TypeError"]
+    yield (pkreg.code_of(5, 3), pkreg.pixel_of(2**32 - 1)), (27, (65535, 65535))
+    yield without_library(), "cannot open the library /nowhere/libpkreg.so: run 'make lib', or name it by PKREG_LIBRARY\n"
+
+
+def main():
+    number = 0
+    for told, expected in cases():
+        number += 1
+        if told != expected:
+            print(f"python: {told} and not {expected}")
+            return 1
+    print(f"python: {number} facts of the module ok")
+    return 0
+
+
+if __name__ == "__main__":
+    sys.exit(main())

@@ -1,0 +1,62 @@
+"""Damage to a store's words: each kind writes to the words of a store that has this model's sizes."""
+
+from model import MARK, slots_for
+
+SPOILED = 0xFFFFFFFF
+# a place and a value with which the words are no register
+NO_REGISTER = ((0, 0), (0, MARK ^ 1), (1, 0), (1, 17), (2, 1), (2, 17), (3, 0), (3, 65536))
+
+
+def put_sizes_right(subject, model):
+    """Words 0 to 3 as make wrote them."""
+    for at, value in enumerate((MARK, model.order, model.k, model.most)):
+        subject.store[at] = value
+
+
+def spoil(random, subject, model):
+    """Words 0 to 3 right, all others FFFFFFFF."""
+    put_sizes_right(subject, model)
+    for at in range(4, len(subject.store)):
+        subject.store[at] = SPOILED
+
+
+def scatter(random, subject, model):
+    """Some words become any number, or a neighbour's."""
+    for _ in range(random.randint(1, 8)):
+        at = random.randrange(4, len(subject.store))
+        other = subject.store[random.randrange(4, len(subject.store))]
+        subject.store[at] = random.choice((random.getrandbits(32), random.randrange(20), other, SPOILED, subject.store[at] + 1 & SPOILED))
+
+
+def copy_slot(random, subject, model):
+    """One slot's words over another's: two slots claim to be one block."""
+    width = 8 + 10 * (model.k - 1)
+    slots = slots_for(model.k, model.most)
+    source, target = 8 + random.randrange(slots) * width, 8 + random.randrange(slots) * width
+    for i in range(width):
+        subject.store[target + i] = subject.store[source + i]
+
+
+def name_each_other(random, subject, model):
+    """Slots whose elements are blocks in other slots, and the own one, by the layout of docs/DECISIONS.md, numbers 8 and 9."""
+    width = 8 + 10 * (model.k - 1)
+    slots = slots_for(model.k, model.most)
+    for slot in range(slots):
+        at = 8 + slot * width
+        level = random.randint(1, model.order) if slot else model.order
+        subject.store[at], subject.store[at + 1] = level, 0
+        subject.store[at + 2] = random.randint(0, 5 * (model.k - 1))
+        for element in range(5 * (model.k - 1)):
+            tag = 1 + random.randrange(slots) + random.randint(1, model.order) * 2**20
+            subject.store[at + 8 + 2 * element] = random.choice((0, 0, element))
+            subject.store[at + 9 + 2 * element] = random.choice((tag, tag, 0))
+
+
+def other_sizes(random, subject, model):
+    """One of words 0 to 3 is another, beyond its limits or not."""
+    at, value = random.choice(NO_REGISTER)
+    within_limits = (0, random.randint(1, 16), random.randint(2, 16), random.randint(1, model.most + 9))
+    subject.store[at] = value if at == 0 or random.random() < 0.5 else within_limits[at]
+
+
+DAMAGES = (spoil, scatter, scatter, copy_slot, name_each_other, other_sizes)
