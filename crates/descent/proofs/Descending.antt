@@ -12,7 +12,7 @@ use lib.Seq.{getD-set-same, getD-set-other}
 use Rattle.pktree.specs.Elements.{size}
 use Rattle.pktree.proofs.Absurd.{zero-is-not-one}
 use Rattle.measures.specs.Sizes.{sizesOf, slotCount, slotWidth}
-use Rattle.measures.specs.Layout.{layoutOf, LayoutFits}
+use Rattle.measures.specs.Layout.{layoutOf, LayoutFits, mostElements}
 use Rattle.measures.specs.Slot.{slotPart, countWord}
 use Rattle.store.specs.Opening.{HeaderSays, CannotOpen}
 use Rattle.measures.specs.declared.sizes.Layout.{Layout}
@@ -21,8 +21,8 @@ use Rattle.store.specs.Sound.{Sound}
 use Rattle.store.proofs.OpenedSlot as opened
 use Rattle.store.proofs.SoundView.{sound-view}
 use Rattle.store.proofs.BlockView.{BlockView, ChildView, elements-lie, child-view}
-use Rattle.descent.specs.Way.{Frame, plug}
-use Rattle.descent.specs.Looked.{LookedHere, InnerBlock}
+use Rattle.descent.specs.Way.{Frame, plug, pathLength}
+use Rattle.descent.specs.Located.{LookedHere, InnerBlock}
 use Rattle.descent.specs.declared.Located.{Located}
 use Rattle.descent.specs.Located.{CanEnter, PathNames, LocateMeets}
 use Rattle.measures.proofs.Usable.{slot-long}
@@ -33,7 +33,7 @@ use Rattle.descent.proofs.Ways.{seen-on-way, names-more}
 pub record SoundArguments (words : List ℕ) (placed : Placed) (layout : Layout) (order code : ℕ) : Type 0 where
   pub sound : Sound words placed
   pub layout-is : layout ≡ layoutOf (sizesOf words)
-  pub order-is : order ≡ getD words 1 0
+  pub order-is : order ≡ sizesOf words .order
   pub on-panel : code < 4 ^ order
 
 -- what holds of no sound store
@@ -51,8 +51,8 @@ pub record Reached (placed : Placed) (code : ℕ) (slots places : List ℕ) (dep
 
 -- after each turn
 pub record Descended (words : List ℕ) (layout : Layout) (order code : ℕ) (slots places : List ℕ) (depth slot level block : ℕ) : Type 0 where
-  pub slots-long : length slots ≡ 17
-  pub places-long : length places ≡ 17
+  pub slots-long : length slots ≡ pathLength
+  pub places-long : length places ≡ pathLength
   pub slot-below : slot < layout .slots
   pub falls : depth + level ≤ order
   pub path-below : (i : ℕ) → i < depth → getD slots i 0 < layout .slots
@@ -60,7 +60,7 @@ pub record Descended (words : List ℕ) (layout : Layout) (order code : ℕ) (sl
   -- only the root is not opened yet
   pub closed : CannotOpen (layout .width) words 0 order 0 → (slot ≡ 0) × (level ≡ order) × (block ≡ 0)
 
-pub at-root : (words : List ℕ) (layout : Layout) (order code : ℕ) (slots places : List ℕ) → LayoutFits layout words → length slots ≡ 17 → length places ≡ 17
+pub at-root : (words : List ℕ) (layout : Layout) (order code : ℕ) (slots places : List ℕ) → LayoutFits layout words → length slots ≡ pathLength → length places ≡ pathLength
     → Descended words layout order code slots places 0 0 order 0
 at-root words layout order code slots places fits hs hp =
     record {
@@ -92,11 +92,11 @@ stopped e never =
 module _ {words : List ℕ} {layout : Layout} {order code : ℕ} {slots places : List ℕ} {depth slot level block : ℕ} (fits : LayoutFits layout words)
     (d : Descended words layout order code slots places depth slot level block) where
   seen-here : (placed : Placed) (args : SoundArguments words placed layout order code)
-      → BlockView (getD words 2 0) (layout .width) (layout .slots) words slot level block (d .reached placed args .es)
+      → BlockView (sizesOf words .k) (layout .width) (layout .slots) words slot level block (d .reached placed args .es)
   seen-here placed args =
       let r = d .reached placed args in
-      let w : layout .width ≡ slotWidth (getD words 2 0) = ap (λ (l : Layout). l .width) (args .layout-is) in
-      let n : layout .slots ≡ slotCount (getD words 2 0) (getD words 3 0) = ap (λ (l : Layout). l .slots) (args .layout-is) in
+      let w : layout .width ≡ slotWidth (sizesOf words .k) = ap (λ (l : Layout). l .width) (args .layout-is) in
+      let n : layout .slots ≡ slotCount (sizesOf words .k) (sizesOf words .most) = ap (λ (l : Layout). l .slots) (args .layout-is) in
       rw (w, n) (seen-on-way (args .sound) (r .way) slot level block (r .es) (r .whole))
 
   pub never-at-pixel : level ≤ 0 → NoSound words layout order code
@@ -124,7 +124,7 @@ module _ {words : List ℕ} {layout : Layout} {order code : ℕ} {slots places :
     count-is : (placed : Placed) (args : SoundArguments words placed layout order code) → count ≡ size (d .reached placed args .es)
     count-is placed args = sym (header .count-is) ∙ seen-here placed args .says .count-is
 
-    pub few-elements : count ≤ 75
+    pub few-elements : count ≤ mostElements
     few-elements = opened.few-elements fits (d .slot-below) header
 
     pub found-here : (place : ℕ) (marked : Bool) → 1 ≤ level → LookedHere (slotPart (layout .width) words slot) count code place marked
@@ -162,7 +162,7 @@ module _ {words : List ℕ} {layout : Layout} {order code : ℕ} {slots places :
           looked-inner (seen-here placed args) (r .holds .0) (r .holds .1) (rw (count-is placed args) at inner)
 
       entered-view : (placed : Placed) (args : SoundArguments words placed layout order code)
-          → ChildView (getD words 2 0) (layout .width) (layout .slots) words level block s i c (entered placed args .inside)
+          → ChildView (sizesOf words .k) (layout .width) (layout .slots) words level block s i c (entered placed args .inside)
       entered-view placed args =
           let e = entered placed args in
           child-view _ _ _ words slot level block (d .reached placed args .es) (e .before) s i c (e .inside) (e .after) (seen-here placed args) (e .is)

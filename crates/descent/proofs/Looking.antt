@@ -1,25 +1,27 @@
 -- What a look at a block of a sound store says of the block's elements: where the code stands among them.
-use Prim.Native.Nat.{ℕ, zero, suc, _+_, _*_, _/_, _^_, _≤_, _<_}
+use Prim.Native.Nat.{ℕ, zero, suc, _+_, _-_, _/_, _^_, _≤_, _<_}
 use native.Mathlib.Omega.{arith}
 use native.Mathlib.Nat.{lt-of-not-le}
 use mathlib.Core.Path.{_≡_, refl, ap, subst, sym, _∙_}
 use mathlib.Core.Bool.{Bool, true, false}
 use mathlib.Core.List.{List}
 use lib.ListN.{getD}
+use Rattle.morton.specs.CommonLevel.{CommonLevel}
+use Rattle.morton.proofs.Blocks.{block-up}
 use Rattle.pktree.specs.Elements.{empty, pixel, block, _⧺_, size, blockAt}
 use Rattle.pktree.proofs.Alignment.{pow-pos}
 use Rattle.pktree.proofs.Windows.{within-multiple}
 use Rattle.pktree.proofs.Arranged.{Arranged, arranged-upper, arranged-join}
 use Rattle.pktree.proofs.Absurd.{zero-is-not-one}
 use Rattle.pktree.proofs.Forests.{join-assoc, size-join}
-use Rattle.measures.specs.Slot.{slotPart}
+use Rattle.measures.specs.Slot.{slotPart, elementIndex}
 use Rattle.store.specs.Element.{elementOf, elementAt}
 use Rattle.store.specs.Splice.{codeAt, PlaceOf}
 use Rattle.store.specs.declared.elements.Element.{Element}
 use Rattle.store.specs.declared.elements.Element.the-variants.{Pixel, Block}
 use Rattle.store.specs.Placed.{Placed}
 use Rattle.store.proofs.BlockView.{SplitAt, at-pixel, at-block, split-at, element-pixel, element-block, BlockView, ChildView, child-view}
-use Rattle.descent.specs.Looked.{OwnPixel, Between, LookedHere, InnerBlock}
+use Rattle.descent.specs.Located.{EndsBefore, OwnPixel, BetweenElements, LookedHere, InnerBlock}
 use Rattle.descent.specs.Located.{PlaceIn}
 use Rattle.descent.proofs.Cutting.{arranged-parts}
 
@@ -29,11 +31,46 @@ elementCode (Block s i c) = c
 
 -- an element's code is its first word
 pub code-of-element : (part : List ℕ) (i : ℕ) {e : Element} → elementAt part i ≡ e → codeAt part i ≡ elementCode e
-code-of-element part i h = go (getD part (8 + 2 * i + 1) 0) ∙ ap elementCode h
+code-of-element part i h = go (getD part (elementIndex i + 1) 0) ∙ ap elementCode h
   where
     go : (tag : ℕ) → codeAt part i ≡ elementCode (elementOf (codeAt part i) tag)
     go zero = refl
     go (suc tag) = refl
+
+-- a place that is not the first comes after another
+suc-pred : (n : ℕ) → (n ≡ 0 → ⊥) → suc (n - 1) ≡ n
+suc-pred n h = omega arith
+
+-- what is known where code has decoded the element before the code's place
+module _ {part : List ℕ} {count code : ℕ} (place : ℕ) (element : Element) (at : PlaceOf part count code place) (some : place ≡ 0 → ⊥)
+    (decoded : element ≡ elementAt part (place - 1)) where
+  next : suc (place - 1) ≡ place
+  next = suc-pred place some
+
+  -- it ends before the code
+  between : EndsBefore element code → BetweenElements part count code place
+  between ends′ =
+      let ends : EndsBefore (elementAt part (place - 1)) code = rw decoded at ends′ in
+      record { place-of = at; ends = λ i e. let last : place - 1 ≡ i = omega arith in rw last at ends }
+
+  pub own-pixel : (c : ℕ) → element ≡ Pixel c → codeAt part (place - 1) ≡ code → OwnPixel part count code (place - 1)
+  own-pixel c is own =
+      let e : elementAt part (place - 1) ≡ Pixel c = sym decoded ∙ is in
+      record { within = omega (arith, at .within, next); pixel = e ∙ ap Pixel (sym (code-of-element part (place - 1) e) ∙ own); above = rw next at }
+
+  pub after-pixel : (c : ℕ) → element ≡ Pixel c → (codeAt part (place - 1) ≡ code → ⊥) → BetweenElements part count code place
+  after-pixel c is other = between (rw is (λ q. other (code-of-element part (place - 1) (sym decoded ∙ is) ∙ q)))
+
+-- the same of a block, by the level from which on it and the code share a block
+module _ {part : List ℕ} {count code : ℕ} (s i c level : ℕ) (common : CommonLevel c code level) (place : ℕ) (element : Element)
+    (at : PlaceOf part count code place) (some : place ≡ 0 → ⊥) (decoded : element ≡ elementAt part (place - 1)) (is : element ≡ Block s i c) where
+  pub after-block : i < level → BetweenElements part count code place
+  after-block low = between place element at some decoded (rw is (λ q. omega (arith, common .least i q)))
+
+  pub in-block : level ≤ i → InnerBlock part count code (place - 1) s i c
+  in-block high =
+      let next : suc (place - 1) ≡ place = suc-pred place some in
+      record { within = omega (arith, at .within, next); block = sym decoded ∙ is; holds = block-up _ _ high (common .common); above = rw next at }
 
 -- the element at this place is a block that holds the code
 pub record EntersBlock (code place s i c : ℕ) (es : Placed) : Type 0 where
@@ -86,7 +123,7 @@ module _ {k width slots : ℕ} {words : List ℕ} {slot level from : ℕ} {es : 
     h .7,
   )
 
-  looked-between : (place : ℕ) → Between part count code place → PlaceIn k level from code to place false es
+  looked-between : (place : ℕ) → BetweenElements part count code place → PlaceIn k level from code to place false es
   looked-between zero h =
       record {
         before = empty;

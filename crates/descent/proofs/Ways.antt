@@ -3,10 +3,10 @@ use Prim.Native.Nat.{ℕ, _≤_, _<_}
 use native.Mathlib.Omega.{arith}
 use mathlib.Core.Path.{_≡_, refl}
 use mathlib.Core.List.{List, [], _∷_}
-use lib.ListN.{length, getD, set}
+use lib.ListN.{length, set}
 use lib.Seq.{getD-set-same, getD-set-other}
 use Rattle.pktree.specs.Elements.{size, _⧺_, blockAt}
-use Rattle.measures.specs.Sizes.{slotCount, slotWidth}
+use Rattle.measures.specs.Sizes.{slotCount, slotWidth, sizesOf}
 use Rattle.store.specs.Placed.{Placed}
 use Rattle.store.specs.Sound.{Sound}
 use Rattle.store.proofs.SoundView.{sound-view}
@@ -16,11 +16,11 @@ use Rattle.descent.specs.Located.{PathNames}
 
 -- a block of a sound store, and a block among its elements
 abbrev pub Seen : List ℕ → ℕ → ℕ → ℕ → Placed → Type 0
-Seen words slot level code es = BlockView (getD words 2 0) (slotWidth (getD words 2 0)) (slotCount (getD words 2 0) (getD words 3 0)) words slot level code es
+Seen words slot level code es = BlockView (sizesOf words .k) (slotWidth (sizesOf words .k)) (slotCount (sizesOf words .k) (sizesOf words .most)) words slot level code es
 
 abbrev pub SeenInside : List ℕ → ℕ → ℕ → ℕ → ℕ → ℕ → Placed → Type 0
 SeenInside words outer-level outer-code slot level code es =
-    ChildView (getD words 2 0) (slotWidth (getD words 2 0)) (slotCount (getD words 2 0) (getD words 3 0)) words outer-level outer-code slot level code es
+    ChildView (sizesOf words .k) (slotWidth (sizesOf words .k)) (slotCount (sizesOf words .k) (sizesOf words .most)) words outer-level outer-code slot level code es
 
 -- the elements of a frame's block
 abbrev pub around : Frame → ℕ → ℕ → ℕ → Placed → Placed
@@ -37,7 +37,7 @@ pub seen-on-way : {words : List ℕ} {placed : Placed} → Sound words placed
 seen-on-way {words} {placed} sound [] slot level code es whole =
     let (root, v) = sound-view words placed sound in
     let s : slot ≡ 0 = cc (v .is) in
-    let l : level ≡ getD words 1 0 = cc (v .is) in
+    let l : level ≡ sizesOf words .order = cc (v .is) in
     let c : code ≡ 0 = cc (v .is) in
     let e : es ≡ root = cc (v .is) in
     rw (s, l, c, e) (root-view words placed root sound v)

@@ -1,20 +1,57 @@
--- What the descent to a code finds: the smallest block that holds it, and its place among that block's elements.
-use Prim.Native.Nat.{ℕ, suc, _+_, _^_, _≤_, _<_}
+-- What the descent to a code finds, on any words: one look at the elements of a block, then the smallest block that holds the code.
+use Prim.Native.Nat.{ℕ, suc, _^_, _/_, _<_, _+_, _≤_}
 use mathlib.Core.Path.{_≡_}
 use mathlib.Core.Bool.{Bool, true, false}
-use mathlib.Core.Logic.{_⊎_}
 use mathlib.Core.List.{List, [], _∷_}
+use Rattle.store.specs.Element.{elementAt}
+use Rattle.store.specs.Splice.{PlaceOf}
+use Rattle.store.specs.declared.elements.Element.{Element}
+use Rattle.store.specs.declared.elements.Element.the-variants.{Pixel, Block}
+use Rattle.descent.specs.declared.Ahead.{Ahead}
+use Rattle.descent.specs.declared.Ahead.the-variants.{Here, Inner}
+use mathlib.Core.Logic.{_⊎_}
 use lib.ListN.{length, getD}
 use Rattle.pktree.specs.Elements.{size, _⧺_, pixel}
 use Rattle.pktree.proofs.Arranged.{Arranged}
 use Rattle.measures.specs.Sizes.{sizesOf}
-use Rattle.measures.specs.Layout.{layoutOf}
+use Rattle.measures.specs.Layout.{layoutOf, mostElements}
 use Rattle.store.specs.Opening.{CannotOpen}
 use Rattle.measures.specs.declared.sizes.Layout.{Layout}
 use Rattle.store.specs.Placed.{Placed}
 use Rattle.store.specs.Sound.{Sound}
 use Rattle.descent.specs.declared.Located.{Located}
 use Rattle.descent.specs.Way.{Frame, plug}
+
+-- the element before the code's place ends before the code: it is another pixel, or a block that does not hold the code
+abbrev pub EndsBefore : Element → ℕ → Type 0
+EndsBefore (Pixel c) code = c ≡ code → ⊥
+EndsBefore (Block slot level c) code = c / 4 ^ level ≡ code / 4 ^ level → ⊥
+
+-- a pixel of the code's own stands at this place
+pub record OwnPixel (part : List ℕ) (count code place : ℕ) : Type 0 where
+  pub within : place < count
+  pub pixel : elementAt part place ≡ Pixel code
+  pub above : PlaceOf part count code (suc place)
+
+-- no element at this place or before it reaches the code
+pub record BetweenElements (part : List ℕ) (count code place : ℕ) : Type 0 where
+  pub place-of : PlaceOf part count code place
+  pub ends : (i : ℕ) → suc i ≡ place → EndsBefore (elementAt part i) code
+
+abbrev pub LookedHere : List ℕ → ℕ → ℕ → ℕ → Bool → Type 0
+LookedHere part count code place true = OwnPixel part count code place
+LookedHere part count code place false = BetweenElements part count code place
+
+-- the element at this place is a block that holds the code
+pub record InnerBlock (part : List ℕ) (count code place slot level inner : ℕ) : Type 0 where
+  pub within : place < count
+  pub block : elementAt part place ≡ Block slot level inner
+  pub holds : inner / 4 ^ level ≡ code / 4 ^ level
+  pub above : PlaceOf part count code (suc place)
+
+abbrev pub Looked : List ℕ → ℕ → ℕ → Ahead → Type 0
+Looked part count code (Here place marked) = LookedHere part count code place marked
+Looked part count code (Inner e) = InnerBlock part count code (e .place) (e .slot) (e .level) (e .code)
 
 -- the arrays name, root first, the slot of each block that was passed and the place of the element that was entered
 abbrev pub PathNames : List ℕ → List ℕ → List Frame → Type 0
@@ -39,7 +76,7 @@ pub record LocatedIn (words : List ℕ) (placed : Placed) (code : ℕ) (slots pl
   pub depth : r .depth ≡ length way
   pub names : PathNames slots places way
   pub holds : (r .block ≤ code) × (code < r .block + 4 ^ r .level)
-  pub place : PlaceIn (getD words 2 0) (r .level) (r .block) code (r .block + 4 ^ r .level) (r .place) (r .marked) es
+  pub place : PlaceIn (sizesOf words .k) (r .level) (r .block) code (r .block + 4 ^ r .level) (r .place) (r .marked) es
 
 -- whether an inner block's level is lower and its slot is one of the store's
 abbrev pub CanEnter : Layout → ℕ → ℕ → ℕ → Bool → Type 0
@@ -57,11 +94,11 @@ pub record LocatedBounds (layout : Layout) (order : ℕ) (slots : List ℕ) (r :
   pub level-from : 1 ≤ r .level
   pub deep : r .depth + r .level ≤ order
   pub path-below : (i : ℕ) → i < r .depth → getD slots i 0 < layout .slots
-  pub place-below : r .place ≤ 75
+  pub place-below : r .place ≤ mostElements
 
 -- never damaged on a sound store
 pub record LocateMeets (words : List ℕ) (layout : Layout) (order code : ℕ) (slots places : List ℕ) (r : Located) : Type 0 where
   pub bounds : r .damaged ≡ false → LocatedBounds layout order slots r
-  pub sound : (placed : Placed) → Sound words placed → layout ≡ layoutOf (sizesOf words) → order ≡ getD words 1 0 → code < 4 ^ order
+  pub sound : (placed : Placed) → Sound words placed → layout ≡ layoutOf (sizesOf words) → order ≡ sizesOf words .order → code < 4 ^ order
       → (r .damaged ≡ false) × LocatedIn words placed code slots places r
   pub closed : CannotOpen (layout .width) words 0 order 0 → r .damaged ≡ true

@@ -12,6 +12,10 @@ pub record Frame : Type 0 where
   pub before : Placed
   pub after : Placed
 
+-- room for a way: its blocks have levels from 01's highest, 16, down, each lower than the one before
+abbrev pub pathLength : ℕ
+pathLength = 17
+
 -- the tree in which the block of this slot, level and code with these elements stands at the end of the way, the last frame first
 abbrev pub plug : List Frame → ℕ → ℕ → ℕ → Placed → Placed
 plug [] slot level code es = blockAt slot level code es empty

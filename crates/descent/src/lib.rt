@@ -2,10 +2,13 @@ ghost use Prim.Native.Nat.{_+_, _*_, _≤_, _<_};
 ghost use mathlib.Core.Path.{_≡_};
 ghost use mathlib.Core.Bool.{true};
 ghost use lib.ListN.{length};
-ghost use Rattle.measures.specs.Layout.{LayoutFits};
-ghost use Rattle.descent.specs.Looked.{Looked};
+ghost use Rattle.measures.specs.Slot.{elementIndex};
+ghost use Rattle.measures.specs.Layout.{LayoutFits, mostElements};
+ghost use Rattle.descent.specs.Located.{Looked};
+ghost use Rattle.descent.specs.Way.{pathLength};
 ghost use Rattle.descent.specs.Located.{CanEnter, FoundAt, LocateMeets};
 use measures::sizes::Layout;
+use measures::slots::SLOT_HEAD;
 use measures::slots::slot_part;
 use measures::slots::wide;
 use store::elements::Element;
@@ -30,7 +33,7 @@ pub struct Child {
 
 // 01: anything that isn't a block ends the descent there.
 fn look(part: &[u32], count: usize, code: u32) -> Ahead
-    requires { ⌜ (8 + 2 * count ≤ length (now part)) × (count ≤ 75) ⌝ }
+    requires { ⌜ (elementIndex count ≤ length (now part)) × (count ≤ mostElements) ⌝ }
     ensures { λ r. ⌜ Looked (now (part .entry)) count code r ⌝ }
 {
     let place = find_place(part, count, code);
@@ -48,7 +51,7 @@ fn look(part: &[u32], count: usize, code: u32) -> Ahead
         code: inner,
     } = element_at(part, last)
     else {
-        if part[8 + 2 * last] == code {
+        if part[SLOT_HEAD + 2 * last] == code {
             return Ahead::Here {
                 place: last,
                 marked: true,
@@ -78,16 +81,19 @@ pub struct Located {
     pub depth: usize,
 }
 
+// Room for the path to a block: the levels on it fall, from 16 at most.
+pub const PATH_LENGTH: usize = 17;
+
 // Goes down to the smallest block that holds the code, and names the way, root first: each block's slot, and the place entered there.
 pub fn locate(
     store: &[u32],
     layout: Layout,
     order: u32,
     code: u32,
-    slots: &mut [u32; 17],
-    places: &mut [u32; 17],
+    slots: &mut [u32; PATH_LENGTH],
+    places: &mut [u32; PATH_LENGTH],
 ) -> Located
-    requires { ⌜ LayoutFits layout (now store) × (order ≤ 16) × (length (now slots) ≡ 17) × (length (now places) ≡ 17) ⌝ }
+    requires { ⌜ LayoutFits layout (now store) × (order ≤ 16) × (length (now slots) ≡ pathLength) × (length (now places) ≡ pathLength) ⌝ }
     ensures { λ r. ⌜ LocateMeets (now (store .entry)) layout order code (now (slots .exit)) (now (places .exit)) r ⌝ }
 {
     let mut depth: usize = 0;

@@ -10,7 +10,7 @@ use Rattle.register.specs.declared.Listing.{Listing}
 use Rattle.register.specs.declared.Saving.{Saving}
 use Rattle.register.specs.declared.Checking.{Checking}
 use Rattle.register.specs.Answer.{answer, askAnswer, countAnswer, listAnswer, saveAnswer, checkAnswer}
-use Rattle.register.specs.Calls.{MarkMeets, ClearMeets, AskMeets, CountMeets, ListMeets, SaveMeets, LoadMeets, CheckMeets}
+use Rattle.promises.specs.Calls.{MarkMeets, ClearMeets, AskMeets, CountMeets, ListMeets, SaveMeets, LoadMeets, CheckMeets}
 use Rattle.history.specs.Survivors.{Call, mark, clear, ask, count, list, save, load, check}
 use Rattle.history.specs.Run as steps
 use Rattle.history.specs.Run.{Step, SaveRun, Run, done, then}

@@ -16,11 +16,11 @@ use Rattle.store.proofs.SoundView.{sound-view}
 use Rattle.walks.proofs.RootWalk.{heldTree}
 use Rattle.saving.specs.Saving.{mostBytes}
 use Rattle.saving.proofs.SavedImage.{tree-of-held, entries-counted}
-use Rattle.register.specs.Answer.{accepted}
-use Rattle.register.specs.Effect.{passed}
-use Rattle.register.specs.Walk.{Spoiled}
-use Rattle.register.specs.Calls.{SaveMeets, imageOf}
-use Rattle.register.proofs.Refusals.{spoiled-level}
+use Rattle.promises.specs.Answer.{accepted}
+use Rattle.promises.specs.Effect.{passed}
+use Rattle.promises.specs.Walk.{Spoiled}
+use Rattle.promises.specs.Calls.{SaveMeets, imageOf}
+use Rattle.promises.proofs.SpoiledRoot.{spoiled-level}
 
 module _ {words set : List ℕ} (holds : Holds words set) where
   -- it holds no other set

@@ -2,7 +2,7 @@
 use Prim.Native.Nat.{ℕ}
 use mathlib.Core.List.{List, []}
 use Rattle.measures.specs.declared.sizes.Sizes.{Sizes}
-use Rattle.register.proofs.Makes.{accepted-makes}
+use Rattle.promises.proofs.Exactly.{accepted-makes}
 use Rattle.history.specs.Survivors.{Call, next, surviving, survivors}
 use Rattle.history.specs.Run.{Fresh, by-make, Run, done, then, History}
 use Rattle.history.proofs.Steps.{InStep, step-keeps}

@@ -5,7 +5,7 @@ use mathlib.Core.Path.{_≡_, refl, ap, subst, sym, _∙_}
 use mathlib.Core.Bool.{Bool, true, false, _&&_, not, cond}
 use mathlib.Core.List.{List}
 use lib.Dec.{ltb}
-use lib.ListN.{length, getD}
+use lib.ListN.{length}
 use borrow.Author.Tests.{ltb-true, lt-ltb}
 use denote.Ref.{now}
 use Rattle.morton.specs.Code.{codeOf}
@@ -14,11 +14,12 @@ use Rattle.pktree.specs.PixelSet.{member, added, removed}
 use Rattle.measures.specs.declared.sizes.Sizes.{Sizes}
 use Rattle.measures.specs.Sizes.{panelOf, sizesOf}
 use Rattle.store.specs.Sound.{Holds}
-use Rattle.register.specs.Answer.{Answer, answer}
-use Rattle.register.specs.Effect.{effect}
-use Rattle.register.specs.Calls.{Marks, MarkMeets, Clears, ClearMeets, LoadMeets}
-use Rattle.register.proofs.Ladder.{where-holds, where-fails}
-use Rattle.register.proofs.Loads.{image-loaded, else-unchanged}
+use Rattle.promises.specs.Answer.{Answer}
+use Rattle.register.specs.Answer.{answer}
+use Rattle.promises.specs.Effect.{effect}
+use Rattle.promises.specs.Calls.{Marks, MarkMeets, Clears, ClearMeets, LoadMeets}
+use Rattle.promises.proofs.Ladder.{where-holds, where-fails}
+use Rattle.promises.proofs.Exactly.{image-loaded, else-unchanged}
 use Rattle.image.specs.Parts.{pixelsOf}
 use Rattle.history.specs.Survivors.{Call, mark, clear, load, isReplaced, next}
 use Rattle.history.specs.Run.{Step, by-mark, by-clear, by-ask, by-count, by-list, by-save, by-load, by-check}
@@ -83,11 +84,11 @@ load-next before after bytes a set h m = go (isReplaced (sizesOf before) bytes) 
   where
     go : (p : Bool) → isReplaced (sizesOf before) bytes ≡ p → InStep (sizesOf before) (cond p (pixelsOf bytes) set) after
     go true p =
-        let d = image-loaded m (h .holds .sound .usable) (test-says (panelOf (sizesOf before)) (getD before 3 0) bytes (pixelsOf bytes) p) in
+        let d = image-loaded m (h .holds .sound .usable) (test-says (panelOf (sizesOf before)) (sizesOf before .most) bytes (pixelsOf bytes) p) in
         record { holds = d .holds; sized = d .sizes-are }
     go false p =
         let valid = h .holds .sound .usable .valid in
-        same-words (else-unchanged m (λ s. both (some-passes (panelOf (sizesOf before)) (getD before 3 0) bytes (valid .panel) (valid .most-to) s) p)) h
+        same-words (else-unchanged m (λ s. both (some-passes (panelOf (sizesOf before)) (sizesOf before .most) bytes (valid .panel) (valid .most-to) s) p)) h
 
 -- of the sizes that the store says
 abbrev at-own-sizes : {sizes : Sizes} {set words : List ℕ} → InStep sizes set words → InStep (sizesOf words) set words

@@ -7,7 +7,7 @@ use mathlib.Core.List.{List, [], List·Memᴰ, _++_}
 use lib.ListN.{length, take, drop}
 use lib.Seq.{take-at}
 use Rattle.pktree.specs.PixelSet.{member, PixelSet}
-use Rattle.pktree.specs.Elements.{Forest, size, gather}
+use Rattle.pktree.specs.Elements.{Forest, size, gather, unlabelled}
 use Rattle.pktree.specs.Tree.{Instantiated, tree, pixels, blockOf, blocks}
 use Rattle.pktree.specs.Image.{image}
 use Rattle.pktree.proofs.Pixels.{pixels-of-tree-are-set}
@@ -18,14 +18,14 @@ use Rattle.pktree.proofs.Images.{image-determines-set}
 use Rattle.pktree.proofs.Unlabelled.{pixels-unlabelled}
 use Rattle.measures.specs.declared.sizes.Sizes.{Sizes}
 use Rattle.measures.specs.Sizes.{panelOf, sizesOf, ValidSizes}
-use Rattle.store.specs.Placed.{forestOf}
 use Rattle.register.specs.declared.Saving.{Saving}
 use Rattle.register.specs.declared.Saving.the-variants.{Saved}
-use Rattle.register.specs.Answer.{Answer, accepted, saveAnswer}
-use Rattle.register.specs.Effect.{effect}
-use Rattle.register.specs.Output.{WritesOrShort}
-use Rattle.register.specs.Calls.{SaveMeets}
-use Rattle.register.proofs.Ladder.{where-holds, accepted-passed}
+use Rattle.promises.specs.Answer.{Answer, accepted}
+use Rattle.register.specs.Answer.{saveAnswer}
+use Rattle.promises.specs.Effect.{effect}
+use Rattle.promises.specs.Output.{WritesOrShort}
+use Rattle.promises.specs.Calls.{SaveMeets}
+use Rattle.promises.proofs.Ladder.{where-holds, accepted-passed}
 use Rattle.history.specs.Survivors.{Call, survivors}
 use Rattle.history.specs.Run.{SaveRun, by-save, History}
 use Rattle.history.specs.Claim.{fullImage, HoldsSurvivors, EveryTwoLists}
@@ -38,7 +38,7 @@ module _ (sizes : Sizes) (set words : List ℕ) (h : InStep sizes set words) whe
   valid : ValidSizes sizes
   valid = subst ValidSizes (h .sized) (h .holds .sound .usable .valid)
 
-  held-tree : forestOf (h .holds .placed) ≡ tree (panelOf sizes) (member set)
+  held-tree : unlabelled (h .holds .placed) ≡ tree (panelOf sizes) (member set)
   held-tree =
       h .holds .sound .is-tree
       ∙ ap₂ (λ (z : Sizes) (l : List ℕ). tree (panelOf z) (member l)) (h .sized) (h .holds .set-is)

@@ -8,8 +8,8 @@ use Rattle.morton.specs.Code.{interleave}
 use Rattle.measures.specs.Sizes.{ValidSizes}
 use Rattle.register.specs.declared.Outcome.{Outcome}
 use Rattle.register.specs.Answer.{answer}
-use Rattle.register.specs.Calls.{asked, MakeMeets}
-use Rattle.register.proofs.Makes.{accepted-exactly}
+use Rattle.promises.specs.Calls.{asked, MakeMeets}
+use Rattle.promises.proofs.Exactly.{make-refusals}
 use Rattle.history.specs.Survivors.{Call, survivors}
 use Rattle.history.specs.Run.{by-make, Run, History}
 use Rattle.history.specs.Script.{callsTo, callsOf}
@@ -19,12 +19,12 @@ use Rattle.history.proofs.CallSteps.{lent}
 module _ (before made : List ℕ) (m k n : ℕ) (outcome : Outcome) (meets : MakeMeets before made m k n (answer outcome)) (script images : List ℕ) (r : ℕ) (is : r ≡ answer outcome .refusal) where
   pub ran : (after : List ℕ) → r ≡ 0 → Run (callsOf images script) made after → RunMeets before after m k n script images r
   ran after zero run = record {
-    made = (λ e. accepted-exactly meets .0 (sym is ∙ e), λ h. is ∙ accepted-exactly meets .1 h);
+    made = (λ e. make-refusals meets .made .0 (sym is ∙ e), λ h. is ∙ make-refusals meets .made .1 h);
     history = λ e. record { start = made; made = by-make ([], tt) (lent before) outcome made meets (sym is ∙ e); run = run };
   }
 
   pub not-made : (r ≡ 0 → ⊥) → RunMeets before made m k n script images r
-  not-made other = record { made = (λ e. absurd (other e), λ h. absurd (other (is ∙ accepted-exactly meets .1 h))); history = λ e. absurd (other e) }
+  not-made other = record { made = (λ e. absurd (other e), λ h. absurd (other (is ∙ make-refusals meets .made .1 h))); history = λ e. absurd (other e) }
 
 sample-valid : ValidSizes (asked 3 3 4)
 sample-valid = record {

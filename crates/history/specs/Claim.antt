@@ -6,12 +6,12 @@ use mathlib.Core.Option.{some}
 use mathlib.Core.List.{List, List·Memᴰ, _++_}
 use lib.ListN.{length, take, drop}
 use Rattle.pktree.specs.PixelSet.{member}
-use Rattle.pktree.specs.Elements.{Forest, size, gather}
+use Rattle.pktree.specs.Elements.{Forest, size, gather, unlabelled}
 use Rattle.pktree.specs.Tree.{Instantiated, tree, blockOf, blocks}
 use Rattle.pktree.specs.Image.{image}
 use Rattle.measures.specs.declared.sizes.Sizes.{Sizes}
 use Rattle.measures.specs.Sizes.{panelOf}
-use Rattle.store.specs.Placed.{Placed, forestOf}
+use Rattle.store.specs.Placed.{Placed}
 use Rattle.store.specs.Reading.{treeOf}
 use Rattle.store.specs.Sound.{Sound}
 use Rattle.register.specs.declared.Saving.{Saving}
@@ -30,16 +30,16 @@ pub record HoldsSurvivors (sizes : Sizes) (calls : List Call) (words : List ℕ)
   pub placed : Placed
   pub sound : Sound words placed
   pub reads : treeOf words ≡ some placed
-  pub tree-is : forestOf placed ≡ tree (panelOf sizes) (member (survivors sizes calls))
+  pub tree-is : unlabelled placed ≡ tree (panelOf sizes) (member (survivors sizes calls))
   -- a block is held exactly if it is instantiated, with the elements gathered from its quarters
-  pub blocks-are : (level code : ℕ) (elements : Forest) → List·Memᴰ (blockOf level code elements) (blocks (forestOf placed))
+  pub blocks-are : (level code : ℕ) (elements : Forest) → List·Memᴰ (blockOf level code elements) (blocks (unlabelled placed))
       ↔ (Instantiated (panelOf sizes) (member (survivors sizes calls)) level code
       × (elements ≡ gather (member (survivors sizes calls)) (sizes .k) level code))
   -- at most 4(k-1) elements, and k or more but in the root
-  pub block-sizes : (level code : ℕ) (elements : Forest) → List·Memᴰ (blockOf level code elements) (blocks (forestOf placed))
+  pub block-sizes : (level code : ℕ) (elements : Forest) → List·Memᴰ (blockOf level code elements) (blocks (unlabelled placed))
       → (size elements ≤ 4 * (sizes .k - 1)) × ((level ≡ sizes .order → ⊥) → sizes .k ≤ size elements)
   -- n > 0 survivors have at most 1 + floor((n-1)/(k-1)) blocks
-  pub number-of-blocks : 1 ≤ length (survivors sizes calls) → length (blocks (forestOf placed)) ≤ 1 + (length (survivors sizes calls) - 1) / (sizes .k - 1)
+  pub number-of-blocks : 1 ≤ length (survivors sizes calls) → length (blocks (unlabelled placed)) ≤ 1 + (length (survivors sizes calls) - 1) / (sizes .k - 1)
   -- into an output that is long enough there is a save, of exactly the image of the survivors; the rest of the output is as it was
   pub can-save : (output : List ℕ) → length (image (panelOf sizes) (survivors sizes calls)) ≤ length output
       → SaveRun words output (Saved (length (image (panelOf sizes) (survivors sizes calls))))

@@ -108,10 +108,10 @@ pub fn replay(store: &mut [u32], script: &[u32], images: &[u8])
 }
 
 // make, then a script: a whole history. It answers make's number.
-pub fn run(store: &mut [u32], m: u32, k: u32, n: u32, script: &[u32], images: &[u8]) -> u32
-    ensures { λ r. ⌜ RunMeets (now (store .entry)) (now (store .exit)) m k n (now (script .entry)) (now (images .entry)) r ⌝ }
+pub fn run(store: &mut [u32], m: u32, k: u32, most: u32, script: &[u32], images: &[u8]) -> u32
+    ensures { λ r. ⌜ RunMeets (now (store .entry)) (now (store .exit)) m k most (now (script .entry)) (now (images .entry)) r ⌝ }
 {
-    let number = register::refusal_of(register::make(store, m, k, n));
+    let number = register::refusal_of(register::make(store, m, k, most));
     if number == 0 {
         replay(store, script, images);
     }

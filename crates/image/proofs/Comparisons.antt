@@ -1,9 +1,9 @@
 -- How a comparison comes to decide a statement.
-use Prim.Native.Nat.{ℕ, _≤_, _<_}
+use Prim.Native.Nat.{ℕ}
 use mathlib.Core.Path.{_≡_, refl}
 use mathlib.Core.Bool.{Bool, true, false}
-use lib.Dec.{eqb, ltb}
-use borrow.Author.Tests.{eqb-true, eqb-false, ltb-true, ltb-false}
+use lib.Dec.{eqb}
+use borrow.Author.Tests.{eqb-true, eqb-false}
 use Rattle.measures.specs.Decides.{Decides}
 
 pub eqb-decides : (a b : ℕ) (P : Type 0) → (a ≡ b → P) → ((a ≡ b → ⊥) → P → ⊥) → Decides (eqb a b) P
@@ -12,10 +12,3 @@ eqb-decides a b P same other = go (eqb a b) refl
     go : (t : Bool) → eqb a b ≡ t → Decides t P
     go true e = same (eqb-true a b e)
     go false e = other (eqb-false a b e)
-
-pub ltb-decides : (a b : ℕ) (P : Type 0) → (a < b → P) → (b ≤ a → P → ⊥) → Decides (ltb a b) P
-ltb-decides a b P below above = go (ltb a b) refl
-  where
-    go : (t : Bool) → ltb a b ≡ t → Decides t P
-    go true e = below (ltb-true a b e)
-    go false e = above (ltb-false a b e)

@@ -10,8 +10,9 @@ use Rattle.pktree.specs.Elements.{Forest, empty, pixel, block, size, give, gath
 use Rattle.pktree.specs.Entries.{Entry, entry, entries}
 use Rattle.pktree.proofs.Forests.{cond-case, give-case, give-itself, give-elements}
 use Rattle.pktree.proofs.LocalLaw.{gather-is-local}
+use Rattle.image.specs.declared.reader.ElementsRead.{ElementsRead}
 use Rattle.image.specs.declared.reader.ElementsRead.the-variants.{Elements, Wrong}
-use Rattle.image.specs.Reading.{entriesFrom, EntryIs, CanReadBlock, quarterOf, From, ElementsMeet, QuarterMeets}
+use Rattle.image.specs.Reading.{entriesFrom, EntryIs, CanReadBlock, elementsOf, quarterOf, From, ReadAs, ElementsMeet, QuarterMeets, mostOfBlock, mostGiven}
 use Rattle.image.proofs.EntriesFrom.{entry-first, first-entry}
 use Rattle.image.proofs.FirstEntry.{not-past, not-of-elements}
 
@@ -20,10 +21,10 @@ pub pixel-given : (k code : ℕ) → 2 ≤ k → quarterOf k 0 code (λ x. true)
 unfolding gather
 pixel-given k code h = give-elements k 0 code (pixel code empty) (omega arith)
 
-pub pixel-read : {codes levels : List ℕ} {k code at : ℕ} → CanReadBlock codes levels k 0 code at → EntryIs codes levels at 0 code
+pixel-there : {codes levels : List ℕ} {k code at : ℕ} → CanReadBlock codes levels k 0 code at → EntryIs codes levels at 0 code
     → QuarterMeets codes levels k 0 code at (Elements 1 (at + 1))
 unfolding gather
-pixel-read {codes} {levels} {k} {code} {at} can is =
+pixel-there {codes} {levels} {k} {code} {at} can is =
     let itself = pixel-given k code (can .k-from) in
     let given : (f : Forest) → size f < 2 → give k 0 code f ≡ f = λ f few. give-elements k 0 code f (omega (arith, can .k-from)) in
     record {
@@ -40,7 +41,25 @@ pixel-read {codes} {levels} {k} {code} {at} can is =
           (λ t e past. absurd (not-past codes levels at 0 code (code + 4 ^ 0) rest is (rw (given empty (omega arith)) at e) past (omega arith)));
     }
 
-module _ {codes levels : List ℕ} {k level code at : ℕ} (can : CanReadBlock codes levels k level code at) (up : 1 ≤ level) (is : EntryIs codes levels at level code) where
+pub pixel-read : {codes levels : List ℕ} {k level code at : ℕ} → CanReadBlock codes levels k level code at → EntryIs codes levels at level code → level < 1
+    → QuarterMeets codes levels k level code at (Elements 1 (at + 1))
+pixel-read {level = level} can is low = let z : level ≡ 0 = omega arith in rw z (pixel-there (rw z at can) (rw z at is))
+
+-- the elements of a block stand after its entry
+pub inside-can : {codes levels : List ℕ} {k level code at : ℕ} → CanReadBlock codes levels k level code at → EntryIs codes levels at level code
+    → CanReadBlock codes levels k level code (at + 1)
+inside-can can is =
+    record {
+      columns = can .columns;
+      k-from = can .k-from;
+      k-to = can .k-to;
+      level-to = can .level-to;
+      aligned = can .aligned;
+      code-to = can .code-to;
+      at-to = omega (arith, is .below);
+    }
+
+module _ {codes levels : List ℕ} {k level code at : ℕ} (can : CanReadBlock codes levels k level code at) (is : EntryIs codes levels at level code) (up : 1 ≤ level) where
   -- a claimed block gives itself, and its elements stand after its entry
   given-claimed : (marked : ℕ → Bool) (rest : List Entry) → entriesFrom codes levels at ≡ entries (quarterOf k level code marked) ++ rest → From (code + 4 ^ level) rest
       → (k ≤ size (gather marked k level code)) × (entriesFrom codes levels (at + 1) ≡ entries (gather marked k level code) ++ rest)
@@ -51,42 +70,47 @@ module _ {codes levels : List ℕ} {k level code at : ℕ} (can : CanReadBlock c
       (λ few s. absurd (not-of-elements codes levels at k level code es rest up is (gather-is-local marked k level code (can .k-from) (can .aligned) .arranged) s past))
       (λ many s. (many, rw (add-one at) (rw (append-nil (entries es)) at (first-entry codes levels at (entry level code) ((entries es ++ []) ++ rest) s .after)))) e
 
-  pub claimed-wrong : ElementsMeet codes levels k level code (at + 1) Wrong → QuarterMeets codes levels k level code at Wrong
-  claimed-wrong inside =
-      record {
-        sound = tt;
-        complete = λ marked rest e past.
-            let g = given-claimed marked rest e past in
-            let w = inside .complete marked rest (g .1) past in absurd (let z : _≡_ {A = ℕ} 0 1 = cc in omega arith);
-      }
-
-  pub claimed-few : {count next : ℕ} → ElementsMeet codes levels k level code (at + 1) (Elements count next) → count < k → QuarterMeets codes levels k level code at Wrong
-  claimed-few {count} inside few =
-      record {
-        sound = tt;
-        complete = λ marked rest e past.
-            let g = given-claimed marked rest e past in
-            let w = inside .complete marked rest (g .1) past in
-            let n : count ≡ size (gather marked k level code) = cc in absurd (omega (arith, g .0));
-      }
-
-  pub claimed-read : {count next : ℕ} → ElementsMeet codes levels k level code (at + 1) (Elements count next) → k ≤ count
-      → QuarterMeets codes levels k level code at (Elements 1 next)
-  claimed-read {count} {next} inside many =
-      let read = inside .sound in
+  -- a block whose elements are read is read as one element
+  block-given : {count next : ℕ} → ReadAs (elementsOf k level code) codes levels (at + 1) mostOfBlock count next → k ≤ count → ReadAs (quarterOf k level code) codes levels at mostGiven 1 next
+  block-given read many =
       let es : Forest = gather (read .marked) k level code in
       let itself : give k level code es ≡ block level code es empty = give-itself k level code es (omega (arith, read .size-is)) in
       record {
-        sound = record {
-          marked = read .marked;
-          entries-are = rw (itself, append-nil (entries es)) (entry-first codes levels is ∙ ap (λ (l : List Entry). entry level code ∷ l) (rw (add-one at) at (read .entries-are)));
-          size-is = rw itself;
-          count-to = omega arith;
-          next-to = read .next-to;
-        };
-        complete = λ marked rest e past.
-            let g = given-claimed marked rest e past in
-            let w = inside .complete marked rest (g .1) past in
-            let n : next ≡ at + 1 + length (entries (gather marked k level code)) = cc in
-            rw (give-itself k level code (gather marked k level code) (g .0), append-nil (entries (gather marked k level code))) (ap (Elements 1) (omega arith));
+        marked = read .marked;
+        entries-are = rw (itself, append-nil (entries es)) (entry-first codes levels is ∙ ap (λ (l : List Entry). entry level code ∷ l) (rw (add-one at) at (read .entries-are)));
+        size-is = rw itself;
+        count-to = omega arith;
+        next-to = read .next-to;
       }
+
+  module _ {r : ElementsRead} (inside : ElementsMeet codes levels k level code (at + 1) r) where
+    pub claimed-wrong : r ≡ Wrong → QuarterMeets codes levels k level code at Wrong
+    claimed-wrong is-wrong =
+        record {
+          sound = tt;
+          complete = λ marked rest e past.
+              let g = given-claimed marked rest e past in
+              let w = inside .complete marked rest (g .1) past in absurd (let z : _≡_ {A = ℕ} 0 1 = cc in omega arith);
+        }
+
+    module _ {count next : ℕ} (answered : r ≡ Elements count next) where
+      pub claimed-few : count < k → QuarterMeets codes levels k level code at Wrong
+      claimed-few few =
+          record {
+            sound = tt;
+            complete = λ marked rest e past.
+                let g = given-claimed marked rest e past in
+                let w = inside .complete marked rest (g .1) past in
+                let n : count ≡ size (gather marked k level code) = cc in absurd (omega (arith, g .0));
+          }
+
+      pub claimed-read : k ≤ count → QuarterMeets codes levels k level code at (Elements 1 next)
+      claimed-read many =
+          record {
+            sound = block-given (rw answered at (inside .sound)) many;
+            complete = λ marked rest e past.
+                let g = given-claimed marked rest e past in
+                let w = inside .complete marked rest (g .1) past in
+                let n : next ≡ at + 1 + length (entries (gather marked k level code)) = cc in
+                rw (give-itself k level code (gather marked k level code) (g .0), append-nil (entries (gather marked k level code))) (ap (Elements 1) (omega arith));
+          }

@@ -3,7 +3,7 @@ use Prim.Native.Nat.{ℕ, suc, _+_, _^_, _≤_, _<_}
 use native.Mathlib.Omega.{arith}
 use mathlib.Core.Path.{_≡_, refl}
 use mathlib.Core.List.{List, [], _∷_, _++_}
-use Rattle.pktree.specs.Elements.{Forest, empty, pixel, block, blockAt}
+use Rattle.pktree.specs.Elements.{Forest, empty, pixel, blockAt}
 use Rattle.pktree.specs.Entries.{Entry, entry, entries}
 use Rattle.pktree.proofs.Alignment.{pow-pos}
 use Rattle.pktree.proofs.Arranged.{Arranged, arranged-le}
@@ -23,14 +23,14 @@ from-arranged k n from to (blockAt v i c es f) rest h past = h .0
 module _ (codes levels : List ℕ) (at : ℕ) where
   -- the first entry lies outside: there are no elements
   pub nothing-inside : (k n from to : ℕ) (f : Forest) (rest : List Entry) → Arranged k n from to f → entriesFrom codes levels at ≡ entries f ++ rest
-      → (EntryInside codes levels at from to → ⊥) → f ≡ empty
+      → ((level code : ℕ) → EntryInside codes levels at from to level code → ⊥) → f ≡ empty
   nothing-inside k n from to empty rest h e outside = refl
   nothing-inside k n from to (pixel c f) rest h e outside =
       let first = first-entry codes levels at (entry 0 c) (entries f ++ rest) e .is in
-      absurd (outside (record { below = first .below; low = omega (arith, first .code-is, h .0); high = omega (arith, first .code-is, arranged-le k n (suc c) to f (h .1)) }))
+      absurd (outside 0 c (record { is = first; low = h .0; high = omega (arith, arranged-le k n (suc c) to f (h .1)) }))
   nothing-inside k n from to (blockAt v i c es f) rest h e outside =
       let first = first-entry codes levels at (entry i c) ((entries es ++ entries f) ++ rest) e .is in
-      absurd (outside (record { below = first .below; low = omega (arith, first .code-is, h .0); high = omega (arith, first .code-is, pow-pos i, arranged-le k n (c + 4 ^ i) to f (h .7)) }))
+      absurd (outside i c (record { is = first; low = h .0; high = omega (arith, pow-pos i, arranged-le k n (c + 4 ^ i) to f (h .7)) }))
 
   -- the first entry is none of those past a code above it
   pub not-past : (level code to : ℕ) (rest : List Entry) → EntryIs codes levels at level code → entriesFrom codes levels at ≡ rest → From to rest → code < to → ⊥

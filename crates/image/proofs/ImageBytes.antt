@@ -6,8 +6,8 @@ use mathlib.Core.List.{List, [], _∷_, _++_}
 use lib.ListN.{length, getD, take, drop, length-drop, take-append-drop}
 use lib.Seq.{drop-cons, drop-length, drop-drop, getD-drop, take-all, length-take-le}
 use Rattle.pktree.specs.Panel.{Panel}
-use Rattle.pktree.specs.Image.{fourBytes, codeBytes, levelBytes, header, arrays}
-use Rattle.image.specs.Parts.{fourAt, entryNumber, pixelNumber, codesPart, levelsPart, entriesAt, entriesOf}
+use Rattle.pktree.specs.Image.{fourBytes, codeBytes, levelBytes, header, arrays, headerLength}
+use Rattle.image.specs.Parts.{fourAt, entryNumber, pixelNumber, codesPart, levelsPart, entriesAt, entriesOf, levelsStart}
 use Rattle.image.specs.Judged.{WellFormed}
 use Rattle.image.proofs.FourBytes.{sum-four-bytes}
 
@@ -58,23 +58,23 @@ levels-again codes levels (suc n) at e =
 
 module _ (bytes : List ℕ) (formed : WellFormed bytes) where
   pub length-codes : length (codesPart bytes) ≡ 4 * entryNumber bytes
-  length-codes = length-take-le (4 * entryNumber bytes) (drop 10 bytes) (omega (arith, length-drop 10 bytes, formed .arrays))
+  length-codes = length-take-le (4 * entryNumber bytes) (drop headerLength bytes) (omega (arith, length-drop headerLength bytes, formed .arrays))
 
   pub length-levels : length (levelsPart bytes) ≡ entryNumber bytes
-  length-levels = length-take-le (entryNumber bytes) (drop (10 + 4 * entryNumber bytes) bytes) (omega (arith, length-drop (10 + 4 * entryNumber bytes) bytes, formed .arrays))
+  length-levels = length-take-le (entryNumber bytes) (drop (levelsStart (entryNumber bytes)) bytes) (omega (arith, length-drop (levelsStart (entryNumber bytes)) bytes, formed .arrays))
 
   -- after the header come the codes and the levels
-  two-parts : drop 10 bytes ≡ codesPart bytes ++ levelsPart bytes
+  two-parts : drop headerLength bytes ≡ codesPart bytes ++ levelsPart bytes
   two-parts =
       let e : ℕ = entryNumber bytes in
-      let levels : drop (10 + 4 * e) bytes ≡ levelsPart bytes =
-      sym (take-all e (drop (10 + 4 * e) bytes) (omega (arith, length-drop (10 + 4 * e) bytes, formed .arrays))) in
-      sym (take-append-drop (4 * e) (drop 10 bytes)) ∙ ap (λ (l : List ℕ). codesPart bytes ++ l) (drop-drop (4 * e) 10 bytes ∙ levels)
+      let levels : drop (levelsStart e) bytes ≡ levelsPart bytes =
+      sym (take-all e (drop (levelsStart e) bytes) (omega (arith, length-drop (levelsStart e) bytes, formed .arrays))) in
+      sym (take-append-drop (4 * e) (drop headerLength bytes)) ∙ ap (λ (l : List ℕ). codesPart bytes ++ l) (drop-drop (4 * e) headerLength bytes ∙ levels)
 
-  arrays-again : Bytes bytes → arrays (entriesOf bytes) ≡ drop 10 bytes
+  arrays-again : Bytes bytes → arrays (entriesOf bytes) ≡ drop headerLength bytes
   arrays-again h =
       let e : ℕ = entryNumber bytes in
-      ap₂ _++_ (codes-again (codesPart bytes) (levelsPart bytes) e 0 (bytes-take (4 * e) (drop 10 bytes) (bytes-drop 10 bytes h)) (omega (arith, length-codes)))
+      ap₂ _++_ (codes-again (codesPart bytes) (levelsPart bytes) e 0 (bytes-take (4 * e) (drop headerLength bytes) (bytes-drop headerLength bytes h)) (omega (arith, length-codes)))
       (levels-again (codesPart bytes) (levelsPart bytes) e 0 (omega (arith, length-levels)))
       ∙ sym two-parts
 

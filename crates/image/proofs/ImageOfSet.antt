@@ -10,7 +10,7 @@ use Rattle.pktree.specs.PixelSet.{member, PixelSet}
 use Rattle.pktree.specs.Elements.{Forest, gather}
 use Rattle.pktree.specs.Tree.{tree, pixels}
 use Rattle.pktree.specs.Entries.{Entry, entries, pixelEntries}
-use Rattle.pktree.specs.Image.{codeBytes, levelBytes, header, arrays, image}
+use Rattle.pktree.specs.Image.{codeBytes, levelBytes, header, arrays, image, headerLength}
 use Rattle.pktree.proofs.Forests.{blockCount, length-blocks}
 use Rattle.pktree.proofs.Alignment.{aligned-root}
 use Rattle.pktree.proofs.Arranged.{LocallyRight}
@@ -19,7 +19,7 @@ use Rattle.pktree.proofs.BlockNumber.{blocks-take-pixels}
 use Rattle.pktree.proofs.Pixels.{pixels-of-set}
 use Rattle.pktree.proofs.EntryOrder.{number-of-entries, pixel-entries-of-tree}
 use Rattle.pktree.proofs.Images.{image-length, length-code-bytes, length-level-bytes, entries-in-32-bits}
-use Rattle.image.specs.Parts.{entryNumber, pixelNumber, codesPart, levelsPart, entriesAt, entriesOf, pixelsOf}
+use Rattle.image.specs.Parts.{entryNumber, pixelNumber, codesPart, levelsPart, entriesAt, entriesOf, pixelsOf, imageLength, levelsStart}
 use Rattle.image.specs.Judged.{WellFormed}
 use Rattle.image.proofs.FourBytes.{four-bytes-sum}
 use Rattle.image.proofs.EntryParts.{entries-of-arrays}
@@ -29,14 +29,14 @@ module _ (panel : Panel) (l : List Entry) (n : ℕ) where
   whole : List ℕ
   whole = header panel (length l) n ++ arrays l
 
-  codes-are : (e : ℕ) → e ≡ length l → take (4 * e) (drop 10 whole) ≡ codeBytes l
+  codes-are : (e : ℕ) → e ≡ length l → take (4 * e) (drop headerLength whole) ≡ codeBytes l
   unfolding whole
   codes-are e is = rw is (take-at (codeBytes l) (levelBytes l) (4 * length l) (length-code-bytes l))
 
-  levels-are : (e : ℕ) → e ≡ length l → take e (drop (10 + 4 * e) whole) ≡ levelBytes l
+  levels-are : (e : ℕ) → e ≡ length l → take e (drop (levelsStart e) whole) ≡ levelBytes l
   unfolding whole
   levels-are e is =
-      rw (is, ← drop-drop (4 * length l) 10 (header panel (length l) n ++ arrays l), drop-at (codeBytes l) (levelBytes l) (4 * length l) (length-code-bytes l))
+      rw (is, ← drop-drop (4 * length l) headerLength (header panel (length l) n ++ arrays l), drop-at (codeBytes l) (levelBytes l) (4 * length l) (length-code-bytes l))
       (take-all (length l) (levelBytes l) (omega (arith, length-level-bytes l)))
 
 -- the entries of a well-formed image are those of the set's tree
@@ -46,9 +46,9 @@ unfolding whole
 image-tells-entries panel set bytes valid formed is =
     let l : List Entry = entries (tree panel (member set)) in
     let e : entryNumber bytes ≡ length l = omega (arith, formed .arrays, image-length panel set, ap length is) in
-    let c : codesPart bytes ≡ codeBytes l = ap (λ (b : List ℕ). take (4 * entryNumber bytes) (drop 10 b)) (sym is) ∙ codes-are panel l (length set) (entryNumber bytes) e in
+    let c : codesPart bytes ≡ codeBytes l = ap (λ (b : List ℕ). take (4 * entryNumber bytes) (drop headerLength b)) (sym is) ∙ codes-are panel l (length set) (entryNumber bytes) e in
     let v : levelsPart bytes ≡ levelBytes l =
-    ap (λ (b : List ℕ). take (entryNumber bytes) (drop (10 + 4 * entryNumber bytes) b)) (sym is) ∙ levels-are panel l (length set) (entryNumber bytes) e in
+    ap (λ (b : List ℕ). take (entryNumber bytes) (drop (levelsStart (entryNumber bytes)) b)) (sym is) ∙ levels-are panel l (length set) (entryNumber bytes) e in
     ap₂ (λ (codes levels : List ℕ). entriesAt codes levels (entryNumber bytes) 0) c v
     ∙ ap (λ (n : ℕ). entriesAt (codeBytes l) (levelBytes l) n 0) e
     ∙ entries-of-arrays (panel .order) l (entries-in-32-bits panel (member set) valid)
@@ -92,7 +92,7 @@ image-is-well-formed panel set bytes valid h few is = subst (SaysItself panel se
     whole-says : SaysItself panel set (image panel set)
     whole-says =
         record {
-          formed = record { header = omega (arith, image-length panel set); arrays = image-length panel set ∙ ap (λ (n : ℕ). 10 + 5 * n) (sym e) };
+          formed = record { header = omega (arith, image-length panel set); arrays = image-length panel set ∙ ap imageLength (sym e) };
           order = refl;
           k = refl;
           pixels = four-bytes-sum (length set) (omega arith);

@@ -8,6 +8,7 @@ pub mod FirstEntry
 pub mod ForestRead
 pub mod ElementRead
 pub mod Quarters
+pub mod FirstElement
 pub mod QuarterRead
 pub mod QuartersRead
 pub mod PixelNumber

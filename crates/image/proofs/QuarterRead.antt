@@ -1,25 +1,30 @@
 -- What a quarter gives, read element by element.
-use Prim.Native.Nat.{ℕ, suc, _+_, _^_, _≤_, _<_}
+use Prim.Native.Nat.{ℕ, suc, _+_, _-_, _*_, _^_, _≤_, _<_}
 use native.Mathlib.Omega.{arith}
-use mathlib.Core.Path.{_≡_, refl, ap, ap₂, subst, subst₂}
-use mathlib.Core.Bool.{Bool, true}
+use mathlib.Core.Path.{_≡_, refl, ap, ap₂}
+use mathlib.Core.Bool.{Bool, true, false}
 use mathlib.Core.List.{List, _++_, append-assoc}
 use lib.ListN.{length, length-append}
 use Rattle.pktree.specs.PixelSet.{member}
-use Rattle.pktree.specs.Elements.{Forest, empty, pixel, block, blockAt, _⧺_, size, give, gather}
-use Rattle.pktree.specs.Entries.{Entry, entry, entries}
+use Rattle.pktree.specs.Elements.{Forest, empty, _⧺_, size, gather}
+use Rattle.pktree.specs.Entries.{Entry, entries}
 use Rattle.pktree.specs.Tree.{pixels}
-use Rattle.pktree.proofs.Forests.{size-join, give-case, give-itself}
-use Rattle.pktree.proofs.Alignment.{aligned-multiple, aligned-next, blocks-nest}
+use Rattle.pktree.proofs.Forests.{size-join, give-case}
+use Rattle.pktree.proofs.Alignment.{pow-pos, aligned-next, blocks-nest}
 use Rattle.pktree.proofs.Arranged.{Arranged, arranged-lift, arranged-lower, arranged-upper, arranged-join}
 use Rattle.pktree.proofs.EntryOrder.{entries-join}
-use Rattle.pktree.proofs.LocalLaw.{local-is-gather, gather-is-local, few-are-given, given-row}
+use Rattle.pktree.proofs.LocalLaw.{gather-is-local, few-are-given, given-row}
+use Rattle.measures.specs.Decides.{Decides}
+use Rattle.measures.proofs.Decides.{decided-true, decided-false}
+use Rattle.image.specs.declared.reader.NextEntry.{NextEntry}
+use Rattle.image.specs.declared.reader.NextEntry.the-variants.{Found, Nothing}
+use Rattle.image.specs.declared.reader.ElementsRead.{ElementsRead}
 use Rattle.image.specs.declared.reader.ElementsRead.the-variants.{Elements, Wrong}
-use Rattle.image.specs.Reading.{entriesFrom, EntryIs, EntryInside, FitsQuarter, CanReadBlock, quarterOf, From, QuarterMeets}
-use Rattle.image.proofs.EntriesFrom.{first-entry, entries-past}
-use Rattle.image.proofs.FirstEntry.{from-arranged, nothing-inside, not-past}
+use Rattle.image.specs.Reading.{entriesFrom, EntryIs, EntryInside, EntryMeets, FitsQuarter, CanReadBlock, quarterOf, From, QuarterMeets}
+use Rattle.image.proofs.EntriesFrom.{entries-past}
+use Rattle.image.proofs.FirstEntry.{from-arranged, nothing-inside}
+use Rattle.image.proofs.FirstElement.{FirstGiven, first-given}
 use Rattle.image.proofs.ForestRead.{forest-read}
-use Rattle.image.proofs.ElementRead.{pixel-given}
 
 -- of a quarter that stands at `at`: some elements, from `place` on, stand at `next`, and `count` elements before them
 pub record LeftIn (codes levels : List ℕ) (k level code at count next place : ℕ) (marked : ℕ → Bool) (rest : List Entry) : Type 0 where
@@ -40,41 +45,6 @@ pub record PartRead (codes levels : List ℕ) (k level code at count next place 
   pub next-to : next ≤ length levels
   pub complete : (marked : ℕ → Bool) (rest : List Entry) → entriesFrom codes levels at ≡ entries (quarterOf k level code marked) ++ rest
       → From (code + 4 ^ level) rest → LeftIn codes levels k level code at count next place marked rest
-
--- the first of some elements is what its own block gives
-record FirstGiven (k level to i c : ℕ) (left : Forest) : Type 0 where
-  fits : FitsQuarter level i c
-  own : ℕ → Bool
-  others : Forest
-  arranged : Arranged k (suc level) (c + 4 ^ i) to others
-  is : left ≡ quarterOf k i c own ⧺ others
-
-first-given : {codes levels : List ℕ} {k level to next i c : ℕ} (place : ℕ) (left : Forest) (rest : List Entry) → 2 ≤ k → Arranged k (suc level) place to left
-    → entriesFrom codes levels next ≡ entries left ++ rest → From to rest → EntryIs codes levels next i c → c < to → FirstGiven k level to i c left
-first-given {codes} {levels} {next = next} {i = i} {c = c} place empty rest h row e past is inside = absurd (not-past codes levels next i c _ rest is e past inside)
-first-given {codes} {levels} {k} {level} {to = to} {next = next} {i = i} {c = c} place (pixel d f) rest h row e past is inside =
-    let first = first-entry codes levels next (entry 0 d) (entries f ++ rest) e .is in
-    let one : FirstGiven k level to 0 d (pixel d f) =
-    record {
-      fits = record { level-to = omega arith; aligned = aligned-multiple 0 d d (omega arith) };
-      own = λ x. true;
-      others = f;
-      arranged = subst (λ (from : ℕ). Arranged k (suc level) from to f) (omega arith) (row .1);
-      is = rw (pixel-given k d h);
-    } in
-    subst₂ (λ (j d′ : ℕ). FirstGiven k level to j d′ (pixel d f)) (omega (arith, first .level-is, is .level-is)) (omega (arith, first .code-is, is .code-is)) one
-first-given {codes} {levels} {k} {level} {to = to} {next = next} {i = i} {c = c} place (blockAt u j d es f) rest h row e past is inside =
-    let first = first-entry codes levels next (entry j d) ((entries es ++ entries f) ++ rest) e .is in
-    let own : es ≡ gather (member (pixels es)) k j d = local-is-gather k j d es (row .4) (record { arranged = row .6; sparse = row .5 }) in
-    let one : FirstGiven k level to j d (block j d es f) =
-    record {
-      fits = record { level-to = omega (arith, row .1); aligned = row .4 };
-      own = member (pixels es);
-      others = f;
-      arranged = row .7;
-      is = subst (λ (g : Forest). block j d es f ≡ give k j d g ⧺ f) own (rw (give-itself k j d es (row .3)));
-    } in
-    subst₂ (λ (j′ d′ : ℕ). FirstGiven k level to j′ d′ (block j d es f)) (omega (arith, first .level-is, is .level-is)) (omega (arith, first .code-is, is .code-is)) one
 
 module _ {codes levels : List ℕ} {k level code at : ℕ} (can : CanReadBlock codes levels k level code at) where
   -- a quarter gives fewer than k elements, in order
@@ -106,13 +76,16 @@ module _ {codes levels : List ℕ} {k level code at : ℕ} (can : CanReadBlock c
       }
 
   -- an element that fits lies in the quarter
-  pub element-within : {i c : ℕ} → FitsQuarter level i c → c < code + 4 ^ level → c + 4 ^ i ≤ code + 4 ^ level
+  element-within : {i c : ℕ} → FitsQuarter level i c → c < code + 4 ^ level → c + 4 ^ i ≤ code + 4 ^ level
   element-within {i} {c} fits high = blocks-nest i level c (code + 4 ^ level) (fits .level-to) (fits .aligned) (aligned-next level code (can .aligned)) high
 
-  module _ {count next place : ℕ} (s : PartRead codes levels k level code at count next place) where
+  -- what the next entry is asked for with, and what is answered
+  module _ {count next place end : ℕ} {n : NextEntry} (s : PartRead codes levels k level code at count next place) (ends : end ≡ code + 4 ^ level)
+      (meets : EntryMeets codes levels next place end n) where
     -- no entry lies in what is left of the quarter
-    pub quarter-read : (EntryInside codes levels next place (code + 4 ^ level) → ⊥) → QuarterMeets codes levels k level code at (Elements count next)
-    quarter-read outside =
+    pub quarter-read : n ≡ Nothing → QuarterMeets codes levels k level code at (Elements count next)
+    quarter-read none =
+        let outside = rw ends at (rw none at meets) in
         let all : Arranged k (suc level) code (code + 4 ^ level) (s .read) = arranged-upper k (suc level) code place (code + 4 ^ level) (s .read) (s .place-to) (s .arranged) in
         record {
           sound = forest-read (quarterOf k level code) (s .read) (member (pixels (s .read)))
@@ -124,11 +97,17 @@ module _ {codes levels : List ℕ} {k level code at : ℕ} (can : CanReadBlock c
               ap₂ Elements (omega (arith, l .size-left, ap size none)) (omega (arith, l .index-left, ap (λ (f : Forest). length (entries f)) none));
         }
 
-    module _ {i c : ℕ} (is : EntryIs codes levels next i c) (high : c < code + 4 ^ level) where
+    module _ {i c : ℕ} (found : n ≡ Found i c) where
+      entry-there : EntryInside codes levels next place (code + 4 ^ level) i c
+      entry-there = rw ends at (rw found at meets)
+
+      pub entry-fits : c < 4294967296
+      entry-fits = omega (arith, entry-there .high, can .code-to)
+
       -- the next element of any reading of the quarter, and what stands after it
       next-given : (marked : ℕ → Bool) (rest : List Entry) → (l : LeftIn codes levels k level code at count next place marked rest) → From (code + 4 ^ level) rest
           → FirstGiven k level (code + 4 ^ level) i c (l .left)
-      next-given marked rest l past = first-given place (l .left) rest (can .k-from) (l .arranged) (l .entries-left) past is high
+      next-given marked rest l past = first-given place (l .left) rest (can .k-from) (l .arranged) (l .entries-left) past (entry-there .is) (entry-there .high)
 
       next-there : (marked : ℕ → Bool) (rest : List Entry) (l : LeftIn codes levels k level code at count next place marked rest) (past : From (code + 4 ^ level) rest)
           → let g = next-given marked rest l past in
@@ -139,19 +118,6 @@ module _ {codes levels : List ℕ} {k level code at : ℕ} (can : CanReadBlock c
             rw (g .is, entries-join one (g .others), append-assoc (entries one) (entries (g .others)) rest) at (l .entries-left),
             from-arranged k (suc level) (c + 4 ^ i) (code + 4 ^ level) (g .others) rest (g .arranged) past,
           )
-
-      pub element-unfit : (FitsQuarter level i c → ⊥) → QuarterMeets codes levels k level code at Wrong
-      element-unfit unfit =
-          record { sound = tt; complete = λ marked rest e past. absurd (unfit (next-given marked rest (s .complete marked rest e past) past .fits)) }
-
-      pub element-wrong : QuarterMeets codes levels k i c next Wrong → QuarterMeets codes levels k level code at Wrong
-      element-wrong one =
-          record {
-            sound = tt;
-            complete = λ marked rest e past.
-                let there = next-there marked rest (s .complete marked rest e past) past in
-                let w = one .complete _ _ (there .0) (there .1) in absurd (let z : _≡_ {A = ℕ} 0 1 = cc in omega arith);
-          }
 
       -- what is left after the next element
       left-after : {more after : ℕ} → QuarterMeets codes levels k i c next (Elements more after) → (marked : ℕ → Bool) (rest : List Entry)
@@ -179,22 +145,78 @@ module _ {codes levels : List ℕ} {k level code at : ℕ} (can : CanReadBlock c
             );
           }
 
-      pub element-many : {more after : ℕ} → QuarterMeets codes levels k i c next (Elements more after) → k ≤ count + more → QuarterMeets codes levels k level code at Wrong
-      element-many one many =
-          record { sound = tt; complete = λ marked rest e past. absurd (omega (arith, left-after one marked rest e past .size-left, given-few marked)) }
-
-      pub element-read : {more after : ℕ} → place ≤ c → FitsQuarter level i c → QuarterMeets codes levels k i c next (Elements more after) → count + more < k
-          → PartRead codes levels k level code at (count + more) after (c + 4 ^ i)
-      element-read {more} {after} low fits one few =
-          let given : Forest = quarterOf k i c (one .sound .marked) in
+      pub element-unfit : {t : Bool} → Decides t (FitsQuarter level i c) → t ≡ false → QuarterMeets codes levels k level code at Wrong
+      element-unfit decides unfit =
           record {
-            read = s .read ⧺ given;
-            arranged = arranged-join k (suc level) code place (c + 4 ^ i) (s .read) given (s .arranged)
-                (arranged-lower k (suc level) place c (c + 4 ^ i) given low (given-arranged i c (one .sound .marked) fits));
-            entries-are = rw (entries-join (s .read) given, append-assoc (entries (s .read)) (entries given) (entriesFrom codes levels after), ← one .sound .entries-are) (s .entries-are);
-            size-is = rw (size-join (s .read) given, s .size-is, one .sound .size-is);
-            few = few;
-            place-to = element-within fits high;
-            next-to = one .sound .next-to;
-            complete = left-after one;
+            sound = tt;
+            complete = λ marked rest e past. absurd (decided-false unfit decides (next-given marked rest (s .complete marked rest e past) past .fits));
           }
+
+      module _ {t : Bool} (decides : Decides t (FitsQuarter level i c)) (is-true : t ≡ true) where
+        fits : FitsQuarter level i c
+        fits = decided-true is-true decides
+
+        pub element-there : EntryIs codes levels next i c
+        element-there = entry-there .is
+
+        pub element-can : CanReadBlock codes levels k i c next
+        element-can =
+            record {
+              columns = can .columns;
+              k-from = can .k-from;
+              k-to = can .k-to;
+              level-to = omega (arith, can .level-to, fits .level-to);
+              aligned = fits .aligned;
+              code-to = omega (arith, element-within fits (entry-there .high), can .code-to);
+              at-to = s .next-to;
+            }
+
+        -- the element is no larger: what the reader of a quarter falls by
+        pub element-falls : {t : ℕ} → 3 * level + 2 ≡ t → 3 * i + 1 < t
+        element-falls is = omega (arith, fits .level-to)
+
+        pub element-low : i ≤ 16
+        element-low = element-can .level-to
+
+        pub element-ends : c + 4 ^ i ≤ 4294967296
+        element-ends = element-can .code-to
+
+        -- the element ends in the quarter, past the place
+        pub place-rises : {to : ℕ} → to ≡ c + 4 ^ i → end - to < end - place
+        place-rises is = omega (arith, ends, element-within fits (entry-there .high), entry-there .low, pow-pos i)
+
+        module _ {r : ElementsRead} (one : QuarterMeets codes levels k i c next r) where
+          pub element-wrong : r ≡ Wrong → QuarterMeets codes levels k level code at Wrong
+          element-wrong is-wrong =
+              record {
+                sound = tt;
+                complete = λ marked rest e past.
+                    let there = next-there marked rest (s .complete marked rest e past) past in
+                    let w = one .complete _ _ (there .0) (there .1) in absurd (let z : _≡_ {A = ℕ} 0 1 = cc in omega arith);
+              }
+
+          module _ {more after : ℕ} (answered : r ≡ Elements more after) where
+            read-one : QuarterMeets codes levels k i c next (Elements more after)
+            read-one = rw answered at one
+
+            pub count-fits : count + more < 4294967296
+            count-fits = omega (arith, s .few, can .k-to, read-one .sound .count-to)
+
+            pub element-many : k ≤ count + more → QuarterMeets codes levels k level code at Wrong
+            element-many many =
+                record { sound = tt; complete = λ marked rest e past. absurd (omega (arith, left-after read-one marked rest e past .size-left, given-few marked)) }
+
+            pub element-read : {to : ℕ} → to ≡ c + 4 ^ i → count + more < k → PartRead codes levels k level code at (count + more) after to
+            element-read is few =
+                let given : Forest = quarterOf k i c (read-one .sound .marked) in
+                rw is (record {
+                  read = s .read ⧺ given;
+                  arranged = arranged-join k (suc level) code place (c + 4 ^ i) (s .read) given (s .arranged)
+                      (arranged-lower k (suc level) place c (c + 4 ^ i) given (entry-there .low) (given-arranged i c (read-one .sound .marked) fits));
+                  entries-are = rw (entries-join (s .read) given, append-assoc (entries (s .read)) (entries given) (entriesFrom codes levels after), ← read-one .sound .entries-are) (s .entries-are);
+                  size-is = rw (size-join (s .read) given, s .size-is, read-one .sound .size-is);
+                  few = few;
+                  place-to = element-within fits (entry-there .high);
+                  next-to = read-one .sound .next-to;
+                  complete = left-after read-one;
+                })

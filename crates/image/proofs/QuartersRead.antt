@@ -15,8 +15,10 @@ use Rattle.pktree.proofs.Alignment.{aligned-next, aligned-down}
 use Rattle.pktree.proofs.Counting.{sparse-of-small}
 use Rattle.pktree.proofs.EntryOrder.{entries-join}
 use Rattle.pktree.proofs.LocalLaw.{Row, row-join, local-is-gather, gather-is-local, given-row}
+use Rattle.image.specs.declared.reader.ElementsRead.{ElementsRead}
 use Rattle.image.specs.declared.reader.ElementsRead.the-variants.{Elements, Wrong}
-use Rattle.image.specs.Reading.{entriesFrom, elementsOf, quarterOf, From, ElementsMeet, QuarterMeets}
+use Rattle.image.specs.Reading.{entriesFrom, CanReadBlock, elementsOf, quarterOf, From, ElementsMeet, QuarterMeets, mostOfBlock, mostGiven}
+use Rattle.image.proofs.BlockSize.{size-of-quarters}
 use Rattle.image.proofs.EntriesFrom.{entries-past}
 use Rattle.image.proofs.ForestRead.{forest-read}
 use Rattle.image.proofs.Quarters.{quarters, gather-is-quarters, from-quarters}
@@ -35,14 +37,14 @@ pub record QuartersRead (codes levels : List ℕ) (k level code at count next pl
   pub size-is : size read ≡ count
   pub aligned : Aligned level place
   pub ends : place + n * 4 ^ level ≡ code + 4 ^ suc level
-  pub count-to : count + 15 * n ≤ 60
+  pub count-to : count + mostGiven * n ≤ mostOfBlock
   pub next-to : next ≤ length levels
   pub complete : (marked : ℕ → Bool) (rest : List Entry) → entriesFrom codes levels at ≡ entries (gather marked k (suc level) code) ++ rest
       → From (code + 4 ^ suc level) rest → LeftOf codes levels k level code at count next place n marked rest
 
 module _ {codes levels : List ℕ} {k level code at : ℕ} (h : 2 ≤ k) where
-  pub no-quarter-read : Aligned (suc level) code → at ≤ length levels → QuartersRead codes levels k level code at 0 at code 4
-  no-quarter-read aligned to =
+  none-read : Aligned (suc level) code → at ≤ length levels → QuartersRead codes levels k level code at 0 at code 4
+  none-read aligned to =
       record {
         read = empty;
         row = record { arranged = omega arith; sparse = sparse-of-small {A = Unit {0}} k level empty (omega arith) };
@@ -71,15 +73,9 @@ module _ {codes levels : List ℕ} {k level code at : ℕ} (h : 2 ≤ k) where
             (subst (λ (to : ℕ). From to rest) (omega (arith, s .ends)) past),
       )
 
-  -- the next quarter lies in the block
-  pub quarter-within : {count next place : ℕ} (n : ℕ) → 0 < n → QuartersRead codes levels k level code at count next place n → place + 4 ^ level ≤ code + 4 ^ suc level
-  quarter-within zero some s = absurd (omega arith)
-  quarter-within (suc n) some s = omega (arith, s .ends)
-
-  pub quarter-wrong : {count next place : ℕ} (n : ℕ) → 0 < n → QuartersRead codes levels k level code at count next place n
-      → QuarterMeets codes levels k level place next Wrong → ElementsMeet codes levels k (suc level) code at Wrong
-  quarter-wrong zero some s one = absurd (omega arith)
-  quarter-wrong (suc n) some s one =
+  wrong-read : {count next place : ℕ} {r : ElementsRead} (n : ℕ) → QuartersRead codes levels k level code at count next place (suc n)
+      → QuarterMeets codes levels k level place next r → r ≡ Wrong → ElementsMeet codes levels k (suc level) code at Wrong
+  wrong-read n s one is-wrong =
       record {
         sound = tt;
         complete = λ marked rest e past.
@@ -117,15 +113,10 @@ module _ {codes levels : List ℕ} {k level code at : ℕ} (h : 2 ≤ k) where
             };
       }
 
-  pub next-quarter-read : {count next place more after : ℕ} (n : ℕ) → 0 < n → QuartersRead codes levels k level code at count next place n
-      → QuarterMeets codes levels k level place next (Elements more after) → QuartersRead codes levels k level code at (count + more) after (place + 4 ^ level) (n - 1)
-  next-quarter-read zero some s one = absurd (omega arith)
-  next-quarter-read (suc n) some s one = let e : suc n - 1 ≡ n = omega arith in rw e (one-read n s one)
-
-  pub all-read : {count next place : ℕ} → Aligned (suc level) code → QuartersRead codes levels k level code at count next place 0
+  four-read : {count next place : ℕ} → Aligned (suc level) code → QuartersRead codes levels k level code at count next place 0
       → ElementsMeet codes levels k (suc level) code at (Elements count next)
   unfolding quarters
-  all-read {count} {next} {place} aligned s =
+  four-read {count} {next} {place} aligned s =
       let end : place ≡ code + 4 ^ suc level = omega (arith, s .ends) in
       let row : Row k level code (code + 4 ^ suc level) (s .read) = subst (λ (to : ℕ). Row k level code to (s .read)) end (s .row) in
       record {
@@ -135,3 +126,59 @@ module _ {codes levels : List ℕ} {k level code at : ℕ} (h : 2 ≤ k) where
         complete = λ marked rest e past.
             let left = s .complete marked rest e past in ap₂ Elements (omega (arith, left .size-left)) (omega (arith, left .index-left));
       }
+
+-- the same of a block of this level, whose quarters are of the level below
+module _ {codes levels : List ℕ} {k level code at : ℕ} (can : CanReadBlock codes levels k level code at) (up : 1 ≤ level) where
+  level-up : suc (level - 1) ≡ level
+  level-up = omega arith
+
+  of-level : (r : ElementsRead) → ElementsMeet codes levels k (suc (level - 1)) code at r → ElementsMeet codes levels k level code at r
+  of-level r = subst (λ (l : ℕ). ElementsMeet codes levels k l code at r) level-up
+
+  aligned-up : Aligned (suc (level - 1)) code
+  aligned-up = rw level-up (can .aligned)
+
+  pub no-quarter-read : QuartersRead codes levels k (level - 1) code at 0 at code 4
+  no-quarter-read = none-read (can .k-from) aligned-up (can .at-to)
+
+  module _ {count next place n : ℕ} (s : QuartersRead codes levels k (level - 1) code at count next place n) where
+    pub all-read : n ≤ 0 → ElementsMeet codes levels k level code at (Elements count next)
+    all-read none = let z : n ≡ 0 = omega arith in of-level (Elements count next) (four-read (can .k-from) aligned-up (rw z at s))
+
+    module _ (some : 0 < n) where
+      -- the next quarter ends before 2 ^ 32
+      quarter-ends : place + 4 ^ (level - 1) ≤ 4294967296
+      quarter-ends = go n some (s .ends)
+        where
+          go : (m : ℕ) → 0 < m → place + m * 4 ^ (level - 1) ≡ code + 4 ^ suc (level - 1) → place + 4 ^ (level - 1) ≤ 4294967296
+          go zero some ends = absurd (omega arith)
+          go (suc m) some ends = omega (arith, size-of-quarters level up, can .code-to)
+
+      pub quarter-can : CanReadBlock codes levels k (level - 1) place next
+      quarter-can =
+          record {
+            columns = can .columns;
+            k-from = can .k-from;
+            k-to = can .k-to;
+            level-to = omega (arith, can .level-to);
+            aligned = s .aligned;
+            code-to = quarter-ends;
+            at-to = s .next-to;
+          }
+
+      pub next-place-fits : {size : ℕ} → size ≡ 4 ^ (level - 1) → place + size < 18446744073709551616
+      next-place-fits is = omega (arith, quarter-ends)
+
+      next-left : QuartersRead codes levels k (level - 1) code at count next place (suc (n - 1))
+      next-left = let e : suc (n - 1) ≡ n = omega arith in rw e s
+
+      module _ {r : ElementsRead} (one : QuarterMeets codes levels k (level - 1) place next r) where
+        pub quarter-wrong : r ≡ Wrong → ElementsMeet codes levels k level code at Wrong
+        quarter-wrong is-wrong = of-level Wrong (wrong-read (can .k-from) (n - 1) next-left one is-wrong)
+
+        module _ {more after : ℕ} (answered : r ≡ Elements more after) where
+          pub count-fits : count + more < 4294967296
+          count-fits = omega (arith, s .count-to, (rw answered at (one .sound)) .count-to)
+
+          pub next-quarter-read : {size : ℕ} → size ≡ 4 ^ (level - 1) → QuartersRead codes levels k (level - 1) code at (count + more) after (place + size) (n - 1)
+          next-quarter-read is = rw is (one-read (can .k-from) (n - 1) next-left (rw answered at one))

@@ -2,6 +2,7 @@
 use Prim.Native.Nat.{ℕ, zero, suc, _+_, _*_}
 use mathlib.Core.List.{List, [], _∷_}
 use lib.ListN.{getD, take, drop}
+use Rattle.pktree.specs.Image.{headerLength}
 use Rattle.pktree.specs.Entries.{Entry, entry, pixelEntries}
 
 -- four bytes from this place on, the low one first
@@ -15,12 +16,19 @@ entryNumber bytes = fourAt bytes 2
 abbrev pub pixelNumber : List ℕ → ℕ
 pixelNumber bytes = fourAt bytes 6
 
+-- an entry has 5 bytes, a code of 4 and a level of 1
+abbrev pub imageLength : ℕ → ℕ
+imageLength e = headerLength + 5 * e
+
+abbrev pub levelsStart : ℕ → ℕ
+levelsStart e = headerLength + 4 * e
+
 -- 01: codes and levels are parts of the sender's bytes
 abbrev pub codesPart : List ℕ → List ℕ
-codesPart bytes = take (4 * entryNumber bytes) (drop 10 bytes)
+codesPart bytes = take (4 * entryNumber bytes) (drop headerLength bytes)
 
 abbrev pub levelsPart : List ℕ → List ℕ
-levelsPart bytes = take (entryNumber bytes) (drop (10 + 4 * entryNumber bytes) bytes)
+levelsPart bytes = take (entryNumber bytes) (drop (levelsStart (entryNumber bytes)) bytes)
 
 abbrev pub entryAt : List ℕ → List ℕ → ℕ → Entry
 entryAt codes levels at = entry (getD levels at 0) (fourAt codes (4 * at))

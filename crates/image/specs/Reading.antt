@@ -9,6 +9,8 @@ use Rattle.pktree.specs.Elements.{Forest, size, give, gather}
 use Rattle.pktree.specs.Entries.{Entry, entries}
 use Rattle.image.specs.Parts.{fourAt, entriesAt}
 use Rattle.image.specs.Judged.{WellFormed}
+use Rattle.image.specs.declared.reader.NextEntry.{NextEntry}
+use Rattle.image.specs.declared.reader.NextEntry.the-variants.{Found, Nothing}
 use Rattle.image.specs.declared.reader.ElementsRead.{ElementsRead}
 use Rattle.image.specs.declared.reader.ElementsRead.the-variants.{Elements, Wrong}
 
@@ -23,10 +25,14 @@ pub record EntryIs (codes levels : List ℕ) (at level code : ℕ) : Type 0 wher
   pub code-is : fourAt codes (4 * at) ≡ code
 
 -- its code lies from `from` to below `to`
-pub record EntryInside (codes levels : List ℕ) (at from to : ℕ) : Type 0 where
-  pub below : at < length levels
-  pub low : from ≤ fourAt codes (4 * at)
-  pub high : fourAt codes (4 * at) < to
+pub record EntryInside (codes levels : List ℕ) (at from to level code : ℕ) : Type 0 where
+  pub is : EntryIs codes levels at level code
+  pub low : from ≤ code
+  pub high : code < to
+
+abbrev pub EntryMeets : List ℕ → List ℕ → ℕ → ℕ → ℕ → NextEntry → Type 0
+EntryMeets codes levels at from to (Found level code) = EntryInside codes levels at from to level code
+EntryMeets codes levels at from to Nothing = (level code : ℕ) → EntryInside codes levels at from to level code → ⊥
 
 -- an element of this level and code can stand in a quarter of level `quarter`: it is no larger, and aligned
 pub record FitsQuarter (quarter level code : ℕ) : Type 0 where
@@ -73,12 +79,18 @@ pub record ReadMeets (of : (ℕ → Bool) → Forest) (codes levels : List ℕ) 
   pub complete : (marked : ℕ → Bool) (rest : List Entry) → entriesFrom codes levels at ≡ entries (of marked) ++ rest → From end rest
       → r ≡ Elements (size (of marked)) (at + length (entries (of marked)))
 
--- of the elements of a block, 4 (k - 1) at most, and of what a quarter gives, k - 1 at most; k is up to 16
+-- a block has 4 (k - 1) elements at most, and a quarter gives k - 1 at most; k is up to 16
+abbrev pub mostOfBlock : ℕ
+mostOfBlock = 60
+
+abbrev pub mostGiven : ℕ
+mostGiven = 15
+
 abbrev pub ElementsMeet : List ℕ → List ℕ → ℕ → ℕ → ℕ → ℕ → ElementsRead → Type 0
-ElementsMeet codes levels k level code at r = ReadMeets (elementsOf k level code) codes levels (code + 4 ^ level) at 60 r
+ElementsMeet codes levels k level code at r = ReadMeets (elementsOf k level code) codes levels (code + 4 ^ level) at mostOfBlock r
 
 abbrev pub QuarterMeets : List ℕ → List ℕ → ℕ → ℕ → ℕ → ℕ → ElementsRead → Type 0
-QuarterMeets codes levels k level code at r = ReadMeets (quarterOf k level code) codes levels (code + 4 ^ level) at 15 r
+QuarterMeets codes levels k level code at r = ReadMeets (quarterOf k level code) codes levels (code + 4 ^ level) at mostGiven r
 
 -- 12 is asked of an image that 10 and 11 leave: its sizes are the panel's
 pub record CanRead (panel : Panel) (bytes : List ℕ) : Type 0 where

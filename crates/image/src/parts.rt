@@ -5,6 +5,13 @@ ghost use Rattle.measures.specs.Decides.{Decides};
 ghost use Rattle.image.specs.Parts.{fourAt, entryNumber, pixelNumber, codesPart, levelsPart};
 ghost use Rattle.image.specs.Judged.{WellFormed};
 
+// The sizes come first: m, k, e and n. Of each entry, four bytes are its code and one its level.
+const HEADER_BYTES: usize = 10;
+
+const CODE_BYTES: usize = 4;
+
+const ENTRY_BYTES: usize = CODE_BYTES + 1;
+
 // A byte as a number.
 pub fn byte_at(bytes: &[u8], at: usize) -> u32
     requires { ⌜ at < length (now bytes) ⌝ }
@@ -29,10 +36,10 @@ fn four_at(bytes: &[u8], at: usize) -> u32
 pub fn is_well_formed(image: &[u8]) -> bool
     ensures { λ r. ⌜ Decides r (WellFormed (now (image .entry))) ⌝ }
 {
-    if image.len() < 10 {
+    if image.len() < HEADER_BYTES {
         return false;
     }
-    image.len() == 10 + 5 * (four_at(image, 2) as usize)
+    image.len() == HEADER_BYTES + ENTRY_BYTES * (four_at(image, 2) as usize)
 }
 
 // The number of entries, e.
@@ -56,8 +63,8 @@ pub fn codes_part(image: &[u8]) -> &[u8]
     requires { ⌜ WellFormed (now image) ⌝ }
     ensures { λ r. ⌜ now r ≡ codesPart (now (image .entry)) ⌝ }
 {
-    let end = 10 + 4 * entry_number(image);
-    &image[10..end]
+    let end = HEADER_BYTES + CODE_BYTES * entry_number(image);
+    &image[HEADER_BYTES..end]
 }
 
 // 01: the levels are handed back as a part of the sender's bytes.
@@ -65,7 +72,7 @@ pub fn levels_part(image: &[u8]) -> &[u8]
     requires { ⌜ WellFormed (now image) ⌝ }
     ensures { λ r. ⌜ now r ≡ levelsPart (now (image .entry)) ⌝ }
 {
-    let start = 10 + 4 * entry_number(image);
+    let start = HEADER_BYTES + CODE_BYTES * entry_number(image);
     &image[start..]
 }
 

@@ -1,10 +1,10 @@
-ghost use Prim.Native.Nat.{_*_, _≤_, _<_};
+ghost use Prim.Native.Nat.{_+_, _*_, _^_, _≤_, _<_};
 ghost use mathlib.Core.Path.{_≡_};
 ghost use lib.ListN.{length};
 ghost use Rattle.measures.specs.Decides.{Decides};
 ghost use Rattle.image.specs.Judged.{ImageOfSome};
 ghost use Rattle.image.specs.PixelCount.{pixelLevels};
-ghost use Rattle.image.specs.Reading.{EntryIs, EntryInside, FitsQuarter, CanReadBlock, ElementsMeet, QuarterMeets, CanRead};
+ghost use Rattle.image.specs.Reading.{EntryIs, EntryMeets, FitsQuarter, CanReadBlock, ElementsMeet, QuarterMeets, CanRead};
 use crate::parts::byte_at;
 use crate::parts::code_at;
 use crate::parts::codes_part;
@@ -17,6 +17,12 @@ use morton::block_size;
 pub enum ElementsRead {
     Elements { count: u32, next: usize },
     Wrong,
+}
+
+// The level and code of the entry that comes next, or none comes next.
+pub enum NextEntry {
+    Found { level: u32, code: usize },
+    Nothing,
 }
 
 // Has the entry at this index this level and code?
@@ -33,19 +39,25 @@ fn is_entry(codes: &[u8], levels: &[u8], at: usize, level: u32, code: usize) -> 
     wide(code_at(codes, at)) == code
 }
 
-// Has the entry at this index a code from `from` to below `to`?
-fn is_inside(codes: &[u8], levels: &[u8], at: usize, from: usize, to: usize) -> bool
+// The entry at this index, if its code lies from `from` to below `to`.
+fn next_entry(codes: &[u8], levels: &[u8], at: usize, from: usize, to: usize) -> NextEntry
     requires { ⌜ length (now codes) ≡ 4 * length (now levels) ⌝ }
-    ensures { λ r. ⌜ Decides r (EntryInside (now (codes .entry)) (now (levels .entry)) at from to) ⌝ }
+    ensures { λ r. ⌜ EntryMeets (now (codes .entry)) (now (levels .entry)) at from to r ⌝ }
 {
     if levels.len() <= at {
-        return false;
+        return NextEntry::Nothing;
     }
     let code = wide(code_at(codes, at));
     if code < from {
-        return false;
+        return NextEntry::Nothing;
     }
-    code < to
+    if to <= code {
+        return NextEntry::Nothing;
+    }
+    NextEntry::Found {
+        level: byte_at(levels, at),
+        code,
+    }
 }
 
 // Can an element of this level and code stand in a quarter of level `quarter`? It is no larger, and aligned.
@@ -58,6 +70,14 @@ fn fits_quarter(quarter: u32, level: u32, code: usize) -> bool
     }
     let bits = 2 * level;
     (code >> bits) << bits == code
+}
+
+// The first code past a block.
+fn block_end(level: u32, code: usize) -> usize
+    requires { ⌜ (level ≤ 16) × (code + 4 ^ level ≤ 4294967296) ⌝ }
+    ensures { λ r. ⌜ r ≡ code + 4 ^ level ⌝ }
+{
+    code + block_size(level)
 }
 
 // The elements of the block of this level and code, quarter by quarter.
@@ -106,13 +126,18 @@ fn read_quarter(
     requires { ⌜ CanReadBlock (now codes) (now levels) k level code at ⌝ }
     ensures { λ r. ⌜ QuarterMeets (now (codes .entry)) (now (levels .entry)) k level code at r ⌝ }
 {
-    let end = code + block_size(level);
+    let end = block_end(level, code);
     let mut count = 0;
     let mut next = at;
     let mut place = code;
-    while is_inside(codes, levels, next, place, end) {
-        let inner = byte_at(levels, next);
-        let start = wide(code_at(codes, next));
+    loop {
+        let NextEntry::Found {
+            level: inner,
+            code: start,
+        } = next_entry(codes, levels, next, place, end)
+        else {
+            return ElementsRead::Elements { count, next };
+        };
         if !fits_quarter(level, inner, start) {
             return ElementsRead::Wrong;
         }
@@ -128,9 +153,8 @@ fn read_quarter(
             return ElementsRead::Wrong;
         }
         next = n;
-        place = start + block_size(inner);
+        place = block_end(inner, start);
     }
-    ElementsRead::Elements { count, next }
 }
 
 // The element whose entry stands at this index: a pixel, or a claimed block, and k elements or more must be in it.

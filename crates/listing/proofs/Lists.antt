@@ -8,30 +8,29 @@ use lib.ListN.{length, set, length-set}
 use Rattle.pktree.specs.Elements.{Forest, empty, pixel, _⧺_}
 use Rattle.pktree.specs.Tree.{pixels}
 use Rattle.pktree.specs.Window.{Window, found}
-use Rattle.measures.specs.Layout.{LayoutFits}
+use Rattle.measures.specs.Layout.{LayoutFits, moreThanSlots}
 use Rattle.store.specs.declared.elements.Element.{Element}
 use Rattle.store.specs.declared.elements.Element.the-variants.{Block}
 use Rattle.store.specs.declared.opening.Opening.{Opening}
 use Rattle.store.specs.declared.opening.Opening.the-variants.{Damaged}
 use Rattle.walks.specs.Entered.{Entered}
 use Rattle.walks.proofs.Walks.{Walk, ElementWalked, InLoop, walked-child, none-entered, loop-inside, loop-open}
-use Rattle.query.specs.declared.count.Look.{Look}
+use Rattle.query.specs.declared.count.RangeQuery.{RangeQuery}
 use Rattle.query.specs.declared.count.Sum.{Sum}
 use Rattle.query.specs.declared.window.Corners.{Corners}
 use Rattle.query.specs.Corners.{windowBetween, PixelTested, BlockTested}
-use Rattle.query.specs.Counting.{foundIn}
 use Rattle.query.proofs.WindowParts.{found-join, found-in-join, opened-join}
 use Rattle.query.proofs.SeenParts.{pixel-outside, pixel-inside, child-skipped, child-opened}
 use Rattle.query.proofs.Counts.{count-walk, outside-not-counted, inside-counted, skipped-counts, opened-counts, pixel-counted}
-use Rattle.listing.specs.Listing.{Lists, ListMeets, PixelListed}
+use Rattle.listing.specs.Listing.{Lists, BlockListed, PixelListed}
 use Rattle.listing.proofs.WrittenAt.{written-none, written-one, written-join, length-written}
 
-lists-join : {look : Look} {s t u : List ℕ × ℕ × ℕ} {f g : Forest} → Lists look s f t → Lists look t g u → Lists look s (f ⧺ g) u
-lists-join {look} {s} {t} {u} {f} {g} p q =
+lists-join : {range : RangeQuery} {s t u : List ℕ × ℕ × ℕ} {f g : Forest} → Lists range s f t → Lists range t g u → Lists range s (f ⧺ g) u
+lists-join {range} {s} {t} {u} {f} {g} p q =
     record {
       counts = count-walk .join (p .counts) (q .counts);
       wrote = λ ordered few room fits.
-          let w : Window = windowBetween (look .corners) in
+          let w : Window = windowBetween (range .corners) in
           let n = found-in-join w f g in
           let m = opened-join w f g in
           let a = p .counts .says ordered (omega arith) (omega arith) in
@@ -41,13 +40,13 @@ lists-join {look} {s} {t} {u} {f} {g} p q =
           wg ∙ rw (wf, a .0, found-join w f g) (written-join (s .0) (s .1) (found w (pixels f)) (found w (pixels g)) (omega arith));
     }
 
-pub list-walk : {look : Look} → Walk (Lists look)
+pub list-walk : {range : RangeQuery} → Walk (Lists range)
 list-walk = record { none = λ s. record { counts = count-walk .none (s .1, s .2); wrote = λ ordered few room fits. sym (written-none (s .0) (s .1)) }; join = lists-join }
 
 pub all-are : {after o : List ℕ} {n m x y : ℕ} → o ≡ after → x ≡ n → y ≡ m → _≡_ {A = List ℕ × ℕ × ℕ} (o, x, y) (after, n, m)
 all-are e f g = rw (e, f, g)
 
-pub pixel-listed : {look : Look} {c n m r : ℕ} {before after : List ℕ} → PixelListed (look .corners) c n before after r → Lists look (before, n, m) (pixel c empty) (after, r, m)
+pub pixel-listed : {range : RangeQuery} {c n m r : ℕ} {before after : List ℕ} → PixelListed (range .corners) c n before after r → Lists range (before, n, m) (pixel c empty) (after, r, m)
 pixel-listed p = record { counts = pixel-counted (p .counted); wrote = λ ordered few room fits. p .wrote ordered fits }
 
 -- one pixel
@@ -77,34 +76,34 @@ module _ {corners : Corners} {c at : ℕ} {before : List ℕ} {b : Bool} (tested
       }
 
 -- one block
-module _ {look : Look} {words : List ℕ} {element : Element} {level n m s i c : ℕ} {before : List ℕ} {b : Bool} (e : element ≡ Block s i c)
-    (tested : BlockTested (look .corners) i c b) where
-  pub block-skipped : b ≡ false → ElementWalked (Lists look) (look .layout) words level element (before, n, m) (before, n, m)
+module _ {range : RangeQuery} {words : List ℕ} {element : Element} {level n m s i c : ℕ} {before : List ℕ} {b : Bool} (e : element ≡ Block s i c)
+    (tested : BlockTested (range .corners) i c b) where
+  pub block-skipped : b ≡ false → ElementWalked (Lists range) (range .layout) words level element (before, n, m) (before, n, m)
   block-skipped apart =
       walked-child e (λ k at fs low child.
       record {
         counts = skipped-counts tested apart low child;
         wrote = λ ordered few room fits.
-            rw (child-skipped (windowBetween (look .corners)) child ordered (sym (tested .says (omega (arith, child .below)) (child .view .aligned) ordered) ∙ apart) .none-found)
+            rw (child-skipped (windowBetween (range .corners)) child ordered (sym (tested .says (omega (arith, child .below)) (child .view .aligned) ordered) ∙ apart) .none-found)
             (sym (written-none before n));
       })
 
-  pub block-listed : {after : List ℕ} {r : Sum} → b ≡ true → ListMeets look words level s i c before after n m r
-      → ElementWalked (Lists look) (look .layout) words level element (before, n, m) (after, r .found, r .opened)
+  pub block-listed : {after : List ℕ} {r : Sum} → b ≡ true → BlockListed range words level s i c before after n m r
+      → ElementWalked (Lists range) (range .layout) words level element (before, n, m) (after, r .found, r .opened)
   block-listed shares meets =
       walked-child e (λ k at fs low child.
       let in-it = meets .inside .right k fs (child .below) (child .view) in
       record {
         counts = opened-counts tested shares low child (in-it .counts);
         wrote = λ ordered few room fits.
-            let one = child-opened (windowBetween (look .corners)) child ordered (sym (tested .says (omega (arith, child .below)) (child .view .aligned) ordered) ∙ shares) in
+            let one = child-opened (windowBetween (range .corners)) child ordered (sym (tested .says (omega (arith, child .below)) (child .view .aligned) ordered) ∙ shares) in
             let l = ap length (one .same-found) in
             rw (one .same-found) (in-it .wrote ordered (omega (arith, l)) (omega (arith, one .one-opened)) (omega (arith, l)));
       })
 
-module _ {look : Look} {words : List ℕ} {above slot level code found opened : ℕ} {before : List ℕ} where
-  pub list-full : {n : ℕ} → n ≡ opened → look .layout .slots ≤ n → LayoutFits (look .layout) words
-      → ListMeets look words above slot level code before before found opened (record { found = 0; opened = 65536 })
+module _ {range : RangeQuery} {words : List ℕ} {above slot level code found opened : ℕ} {before : List ℕ} where
+  pub list-full : {n : ℕ} → n ≡ opened → range .layout .slots ≤ n → LayoutFits (range .layout) words
+      → BlockListed range words above slot level code before before found opened (record { found = 0; opened = moreThanSlots })
   list-full is full fits =
       record {
         inside = record {
@@ -115,11 +114,11 @@ module _ {look : Look} {words : List ℕ} {above slot level code found opened : 
         closed = λ shut. omega (arith, fits .within .slots-to);
       }
 
-  pub list-barred : {o : Opening} → o ≡ Damaged → Entered (look .layout) words above slot level code o → LayoutFits (look .layout) words
-      → ListMeets look words above slot level code before before found opened (record { found = 0; opened = 65536 })
+  pub list-barred : {o : Opening} → o ≡ Damaged → Entered (range .layout) words above slot level code o → LayoutFits (range .layout) words
+      → BlockListed range words above slot level code before before found opened (record { found = 0; opened = moreThanSlots })
   list-barred e entered fits = record { inside = none-entered e entered fits; long = refl; closed = λ shut. omega (arith, fits .within .slots-to) }
 
   pub list-whole : {count i n m : ℕ} {part after : List ℕ}
-      → InLoop (Lists look) (look .layout) words above slot level code count part i (before, found, opened + 1) (after, n, m) → count ≤ i → length after ≡ length before
-      → ListMeets look words above slot level code before after found opened (record { found = n; opened = m })
+      → InLoop (Lists range) (range .layout) words above slot level code count part i (before, found, opened + 1) (after, n, m) → count ≤ i → length after ≡ length before
+      → BlockListed range words above slot level code before after found opened (record { found = n; opened = m })
   list-whole to end long = record { inside = loop-inside to end; long = long; closed = λ shut. absurd (loop-open to shut) }

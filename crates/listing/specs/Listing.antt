@@ -2,20 +2,21 @@
 use Prim.Native.Nat.{ℕ, _+_, _≤_, _<_}
 use mathlib.Core.Path.{_≡_}
 use mathlib.Core.List.{List, _++_}
-use lib.ListN.{length, getD, take, drop}
+use lib.ListN.{length, take, drop}
 use Rattle.pktree.specs.Elements.{Forest, empty, pixel}
 use Rattle.pktree.specs.PixelSet.{member}
 use Rattle.pktree.specs.Tree.{pixels, tree as setTree}
 use Rattle.pktree.specs.Window as tree
 use Rattle.pktree.specs.Window.{found, openedByWindow}
-use Rattle.measures.specs.Sizes.{panelOf, slotWidth, sizesOf}
+use Rattle.measures.specs.Layout.{levelAboveRoot}
+use Rattle.measures.specs.Sizes.{panelOf, sizesOf, largestMost}
 use Rattle.store.specs.Sound.{Holds}
-use Rattle.store.specs.Opening.{CannotOpen}
+use Rattle.store.specs.Opening.{CannotOpen, RootCannotOpen}
 use Rattle.walks.proofs.Walks.{InsideWalked}
-use Rattle.query.specs.declared.count.Look.{Look}
+use Rattle.query.specs.declared.count.RangeQuery.{RangeQuery}
 use Rattle.query.specs.declared.count.Sum.{Sum}
 use Rattle.listing.specs.declared.Listed.{Listed}
-use Rattle.listing.specs.declared.Listed.the-variants.{Written, Short, Broken}
+use Rattle.listing.specs.declared.Listed.the-variants.{Written, Short, Damaged}
 use Rattle.query.specs.declared.window.Corners.{Corners}
 use Rattle.query.specs.Corners.{windowBetween, Ordered}
 use Rattle.query.specs.Counting.{foundIn, BeginsOnPanel, WithinSizes, Counts, PixelCounted}
@@ -29,20 +30,20 @@ abbrev pub Wrote : tree.Window → Forest → ℕ → List ℕ → List ℕ → 
 Wrote window f at before after = at + foundIn window f ≤ length before → after ≡ writtenAt before at (found window (pixels f))
 
 -- from the output and the numbers s, a window walk over these elements comes to t: the numbers are count's, and what is found is written
-pub record Lists (look : Look) (s : List ℕ × ℕ × ℕ) (f : Forest) (t : List ℕ × ℕ × ℕ) : Type 0 where
-  pub counts : Counts look (s .1, s .2) f (t .1, t .2)
-  pub wrote : Ordered (windowBetween (look .corners)) → s .1 + foundIn (windowBetween (look .corners)) f ≤ 65535
-      → s .2 + openedByWindow (windowBetween (look .corners)) f ≤ look .layout .slots → Wrote (windowBetween (look .corners)) f (s .1) (s .0) (t .0)
+pub record Lists (range : RangeQuery) (s : List ℕ × ℕ × ℕ) (f : Forest) (t : List ℕ × ℕ × ℕ) : Type 0 where
+  pub counts : Counts range (s .1, s .2) f (t .1, t .2)
+  pub wrote : Ordered (windowBetween (range .corners)) → s .1 + foundIn (windowBetween (range .corners)) f ≤ largestMost
+      → s .2 + openedByWindow (windowBetween (range .corners)) f ≤ range .layout .slots → Wrote (windowBetween (range .corners)) f (s .1) (s .0) (t .0)
 
-pub record ListMeets (look : Look) (words : List ℕ) (above slot level code : ℕ) (before after : List ℕ) (at opened : ℕ) (r : Sum) : Type 0 where
-  pub inside : InsideWalked (Lists look) (look .layout) words above slot level code (before, at, opened + 1) (after, r .found, r .opened)
+pub record BlockListed (range : RangeQuery) (words : List ℕ) (above slot level code : ℕ) (before after : List ℕ) (at opened : ℕ) (r : Sum) : Type 0 where
+  pub inside : InsideWalked (Lists range) (range .layout) words above slot level code (before, at, opened + 1) (after, r .found, r .opened)
   pub long : length after ≡ length before
-  pub closed : CannotOpen (look .layout .width) words slot level code → look .layout .slots < r .opened
+  pub closed : CannotOpen (range .layout .width) words slot level code → range .layout .slots < r .opened
 
 -- the walk from the root into the first n words of the output: the rest is as it was
-pub record RootListed (look : Look) (words : List ℕ) (order n : ℕ) (before after : List ℕ) (r : Sum) : Type 0 where
+pub record RootListed (range : RangeQuery) (words : List ℕ) (order n : ℕ) (before after : List ℕ) (r : Sum) : Type 0 where
   pub part : List ℕ
-  pub meets : ListMeets look words 17 0 order 0 (take n before) part 0 0 r
+  pub meets : BlockListed range words levelAboveRoot 0 order 0 (take n before) part 0 0 r
   pub is : after ≡ part ++ drop n before
 
 -- a pixel that the window has is added to those found, and written where there is room
@@ -56,13 +57,13 @@ abbrev pub ListCase : List ℕ → tree.Window → List ℕ → List ℕ → For
 ListCase words window before after t set (Written n opened) =
     (n ≡ length (found window set)) × (opened ≡ openedByWindow window t) × (n ≤ length before) × (after ≡ writtenAt before 0 (found window set))
 ListCase words window before after t set (Short n) = (n ≡ length (found window set)) × (length before < n) × (after ≡ before)
-ListCase words window before after t set Broken = ⊥
+ListCase words window before after t set Damaged = ⊥
 
 -- whatever the words are: never more pixels found, or found to be needed, than N, nor more than the output holds, nor more blocks opened than S
 abbrev pub ListWithin : List ℕ → List ℕ → Listed → Type 0
 ListWithin words before (Written n opened) = WithinSizes words n opened × (n ≤ length before)
 ListWithin words before (Short n) = WithinSizes words n 0
-ListWithin words before Broken = Unit {0}
+ListWithin words before Damaged = Unit {0}
 
 pub record ListAnswer (words : List ℕ) (window : tree.Window) (before after : List ℕ) (r : Listed) : Type 0 where
   pub bounds : ListWithin words before r
@@ -72,4 +73,4 @@ pub record ListAnswer (words : List ℕ) (window : tree.Window) (before after : 
   -- no word past those found is written
   pub rest : (n opened : ℕ) → r ≡ Written n opened → drop n after ≡ drop n before
   pub long : length after ≡ length before
-  pub closed : CannotOpen (slotWidth (getD words 2 0)) words 0 (getD words 1 0) 0 → r ≡ Broken
+  pub closed : RootCannotOpen words → r ≡ Damaged

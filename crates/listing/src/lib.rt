@@ -2,15 +2,17 @@
 ghost use Prim.Native.Nat.{_≤_};
 ghost use mathlib.Core.Path.{_≡_};
 ghost use lib.ListN.{length};
-ghost use Rattle.listing.specs.Listing.{PixelListed, ListMeets, RootListed, ListAnswer};
+ghost use Rattle.listing.specs.Listing.{PixelListed, BlockListed, RootListed, ListAnswer};
 ghost use Rattle.query.specs.Corners.{windowOf, HasCodes};
 ghost use Rattle.measures.specs.Layout.{LayoutFits};
 ghost use Rattle.measures.specs.Sizes.{UsableStore, sizesOf};
 use measures::sizes::Sizes;
 use measures::sizes::layout_of;
+use measures::slots::LEVEL_ABOVE_ROOT;
+use measures::slots::MORE_THAN_SLOTS;
 use measures::slots::wide;
 use query::count::Counted;
-use query::count::Look;
+use query::count::RangeQuery;
 use query::count::Sum;
 use query::count::count;
 use query::count::within;
@@ -44,7 +46,7 @@ fn list_pixel(corners: Corners, code: u32, output: &mut [u32], found: u32) -> u3
 // As count_block, and each found code is written once, in rising order.
 fn list_block(
     store: &[u32],
-    look: Look,
+    range: RangeQuery,
     above: u32,
     slot: u32,
     level: u32,
@@ -53,34 +55,34 @@ fn list_block(
     found: u32,
     opened: u32,
 ) -> Sum
-    requires { ⌜ LayoutFits (look .layout) (now store) ⌝ }
-    ensures { λ r. ⌜ ListMeets look (now (store .entry)) above slot level code (now (output .entry)) (now (output .exit)) found opened r ⌝ }
+    requires { ⌜ LayoutFits (range .layout) (now store) ⌝ }
+    ensures { λ r. ⌜ BlockListed range (now (store .entry)) above slot level code (now (output .entry)) (now (output .exit)) found opened r ⌝ }
 {
-    if look.layout.slots <= wide(opened) {
+    if range.layout.slots <= wide(opened) {
         return Sum {
             found: 0,
-            opened: 65536,
+            opened: MORE_THAN_SLOTS,
         };
     }
-    let Opening::Elements(count) = enter(store, look.layout, above, slot, level, code) else {
+    let Opening::Elements(count) = enter(store, range.layout, above, slot, level, code) else {
         return Sum {
             found: 0,
-            opened: 65536,
+            opened: MORE_THAN_SLOTS,
         };
     };
-    let part = part_of(store, look.layout, slot);
+    let part = part_of(store, range.layout, slot);
     let mut pixels = found;
     let mut blocks = opened + 1;
     for i in 0..count {
         match element_at(part, i) {
-            Element::Pixel(c) => pixels = list_pixel(look.corners, c, output, pixels),
+            Element::Pixel(c) => pixels = list_pixel(range.corners, c, output, pixels),
             Element::Block {
                 slot: s,
                 level: inner,
                 code: c,
             } => {
-                if meets(look.corners, inner, c) {
-                    let sum = list_block(store, look, level, s, inner, c, output, pixels, blocks);
+                if meets(range.corners, inner, c) {
+                    let sum = list_block(store, range, level, s, inner, c, output, pixels, blocks);
                     pixels = sum.found;
                     blocks = sum.opened;
                 }
@@ -94,17 +96,27 @@ fn list_block(
 }
 
 // The walk from the root into the first n words; those past them are not lent.
-fn list_root(store: &[u32], look: Look, order: u32, output: &mut [u32], n: usize) -> Sum
-    requires { ⌜ LayoutFits (look .layout) (now store) × (n ≤ length (now output)) ⌝ }
-    ensures { λ r. ⌜ RootListed look (now (store .entry)) order n (now (output .entry)) (now (output .exit)) r ⌝ }
+fn list_root(store: &[u32], range: RangeQuery, order: u32, output: &mut [u32], n: usize) -> Sum
+    requires { ⌜ LayoutFits (range .layout) (now store) × (n ≤ length (now output)) ⌝ }
+    ensures { λ r. ⌜ RootListed range (now (store .entry)) order n (now (output .entry)) (now (output .exit)) r ⌝ }
 {
-    list_block(store, look, 17, 0, order, 0, &mut output[..n], 0, 0)
+    list_block(
+        store,
+        range,
+        LEVEL_ABOVE_ROOT,
+        0,
+        order,
+        0,
+        &mut output[..n],
+        0,
+        0,
+    )
 }
 
 pub enum Listed {
     Written { found: u32, opened: u32 },
     Short(u32),
-    Broken,
+    Damaged,
 }
 
 // 01's list, where refusals 3, 4 and 8 do not apply: it counts first, so that nothing is written to an output that is too short.
@@ -113,20 +125,20 @@ pub fn list(store: &[u32], sizes: Sizes, window: Window, output: &mut [u32]) -> 
     ensures { λ r. ⌜ ListAnswer (now (store .entry)) (windowOf window) (now (output .entry)) (now (output .exit)) r ⌝ }
 {
     let Counted::Seen { found, opened: _ } = count(store, sizes, window) else {
-        return Listed::Broken;
+        return Listed::Damaged;
     };
     let n = wide(found);
     if output.len() < n {
         return Listed::Short(found);
     }
     let layout = layout_of(sizes);
-    let look = Look {
+    let range = RangeQuery {
         layout,
         corners: corners_of(window),
     };
-    let sum = list_root(store, look, sizes.order, output, n);
+    let sum = list_root(store, range, sizes.order, output, n);
     let Counted::Seen { found: _, opened } = within(sizes.most, layout, sum) else {
-        return Listed::Broken;
+        return Listed::Damaged;
     };
     Listed::Written { found, opened }
 }

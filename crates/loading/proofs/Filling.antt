@@ -17,7 +17,7 @@ use Rattle.update.specs.Changed.{MarkAnswer}
 use Rattle.loading.specs.Filled.{pixelsTo, EntryDue, FillDue, ReplaceDue, Replaced}
 use Rattle.loading.proofs.NextPixels.{pixels-after-block, next-not-before, next-has-room, next-added}
 
-first-four : (words : List ℕ) → 4 ≤ length words → take 4 words ≡ getD words 0 0 ∷ getD words 1 0 ∷ getD words 2 0 ∷ getD words 3 0 ∷ []
+first-four : (words : List ℕ) → 4 ≤ length words → take 4 words ≡ getD words 0 0 ∷ sizesOf words .order ∷ sizesOf words .k ∷ sizesOf words .most ∷ []
 first-four [] h = absurd (omega arith)
 first-four (a ∷ []) h = absurd (omega arith)
 first-four (a ∷ b ∷ []) h = absurd (omega arith)

@@ -2,7 +2,7 @@
 use Prim.Native.Nat.{ℕ, _≤_}
 use mathlib.Core.Path.{_≡_}
 use mathlib.Core.List.{List}
-use lib.ListN.{length, getD, take, drop}
+use lib.ListN.{length, take, drop}
 use Rattle.pktree.specs.Panel.{Panel}
 use Rattle.pktree.specs.PixelSet.{PixelSet}
 use Rattle.pktree.specs.Image.{image}
@@ -28,7 +28,7 @@ abbrev pub panelIn : List ℕ → Panel
 panelIn words = panelOf (sizesOf words)
 
 abbrev pub mostIn : List ℕ → ℕ
-mostIn words = getD words 3 0
+mostIn words = sizesOf words .most
 
 -- the store holds the set of the image; words 0 to 3 are as they were
 pub record SetLoaded (before after bytes : List ℕ) : Type 0 where

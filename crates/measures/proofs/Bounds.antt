@@ -5,14 +5,14 @@ use native.Mathlib.Nat.{suc-mul, mul-le-mul, mul-le-mul-right, div-le-self}
 use Rattle.measures.specs.declared.sizes.Sizes.{Sizes}
 use Rattle.measures.specs.declared.sizes.Layout.{Layout}
 use Rattle.measures.specs.Sizes.{ValidSizes, slotCount, largestMost}
-use Rattle.measures.specs.Layout.{LayoutWithin}
+use Rattle.measures.specs.Layout.{LayoutWithin, mostSlots, widestSlot}
 
 -- a slot ends where the next one begins, and the last where the slots end
 pub slot-ends : (slot slots width : ℕ) → slot < slots → slot * width + width ≤ slots * width
 slot-ends slot slots width h = rw suc-mul at (mul-le-mul-right width h)
 
 -- each factor is at its limit at most
-pub words-bounded : {layout : Layout} → LayoutWithin layout → layout .slots * layout .width ≤ 65535 * 158
+pub words-bounded : {layout : Layout} → LayoutWithin layout → layout .slots * layout .width ≤ mostSlots * widestSlot
 words-bounded h = mul-le-mul (h .slots-to) (h .width-to)
 
 -- a quotient is at most what is divided

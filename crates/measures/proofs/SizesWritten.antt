@@ -5,10 +5,10 @@ use mathlib.Core.Path.{refl}
 use mathlib.Core.List.{List, [], _∷_}
 use lib.ListN.{length, set}
 use Rattle.measures.specs.declared.sizes.Sizes.{Sizes}
-use Rattle.measures.specs.Sizes.{ValidSizes, storeWords, WroteSizes}
+use Rattle.measures.specs.Sizes.{ValidSizes, storeWords, WroteSizes, registerMark}
 
 pub sizes-written : (sizes : Sizes) (words : List ℕ) → ValidSizes sizes → storeWords sizes ≤ length words
-    → WroteSizes sizes words (set (set (set (set words 0 0x504B0001) 1 (sizes .order)) 2 (sizes .k)) 3 (sizes .most))
+    → WroteSizes sizes words (set (set (set (set words 0 registerMark) 1 (sizes .order)) 2 (sizes .k)) 3 (sizes .most))
 sizes-written sizes [] v h = absurd (omega arith)
 sizes-written sizes (a ∷ []) v h = absurd (omega arith)
 sizes-written sizes (a ∷ b ∷ []) v h = absurd (omega arith)

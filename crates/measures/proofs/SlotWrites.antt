@@ -8,6 +8,7 @@ use mathlib.Core.List.{List, [], _∷_}
 use lib.ListN.{length, getD, take, drop, set, length-drop, length-set}
 use lib.Seq.{take-nil, take-take, drop-drop, length-take-le, take-at, drop-at, getD-take, getD-drop, take-set-le, take-set-lt, drop-set-lt, drop-set-add}
 use borrow.Rule.Slice.PartMut.{putMid, same-len-mid, take-put, drop-put}
+use Rattle.measures.specs.Words.{headWords}
 use Rattle.measures.specs.Slot.{slotPart, Within, OnlySlot}
 use Rattle.measures.proofs.Bounds.{slot-ends}
 
@@ -32,35 +33,35 @@ drop-take (suc m) n [] = rw (suc-add, take-nil)
 drop-take (suc m) n (x ∷ l) = rw (suc-add, drop-take m n l)
 
 -- word j of a slot is a word of the store
-pub slot-word : (width slot : ℕ) (words : List ℕ) (i j : ℕ) → i ≡ 8 + slot * width + j → j < width → getD (slotPart width words slot) j 0 ≡ getD words i 0
+pub slot-word : (width slot : ℕ) (words : List ℕ) (i j : ℕ) → i ≡ headWords + slot * width + j → j < width → getD (slotPart width words slot) j 0 ≡ getD words i 0
 unfolding slotPart
-slot-word width slot words i j e h = rw (getD-take width (drop (8 + slot * width) words) j 0 h, getD-drop, e)
+slot-word width slot words i j e h = rw (getD-take width (drop (headWords + slot * width) words) j 0 h, getD-drop, e)
 
 -- a slot that lies within the store is as long as a slot is
 pub slot-length : (width slot : ℕ) (words : List ℕ) → Within width words slot → length (slotPart width words slot) ≡ width
 unfolding slotPart
-slot-length width slot words h = length-take-le width _ (omega (arith, length-drop (8 + slot * width) words))
+slot-length width slot words h = length-take-le width _ (omega (arith, length-drop (headWords + slot * width) words))
 
 -- words that differ between a slot's start and its end only
-pub only-slot : (width slot : ℕ) (before after : List ℕ) → length after ≡ length before → take (8 + slot * width) after ≡ take (8 + slot * width) before
-    → drop (8 + slot * width + width) after ≡ drop (8 + slot * width + width) before → OnlySlot width slot before after
+pub only-slot : (width slot : ℕ) (before after : List ℕ) → length after ≡ length before → take (headWords + slot * width) after ≡ take (headWords + slot * width) before
+    → drop (headWords + slot * width + width) after ≡ drop (headWords + slot * width + width) before → OnlySlot width slot before after
 unfolding slotPart
 only-slot width slot before after long front rest =
     record {
       long = long;
-      head = take-less 8 (8 + slot * width) before after (omega arith) front;
+      head = take-less headWords (headWords + slot * width) before after (omega arith) front;
       others = λ other ne. apart other ne (decLt other slot);
       past = past;
     }
   where
-    past : (n : ℕ) → slot < n → drop (8 + n * width) after ≡ drop (8 + n * width) before
-    past n h = drop-more (8 + slot * width + width) (8 + n * width) before after (omega (arith, slot-ends slot n width h)) rest
+    past : (n : ℕ) → slot < n → drop (headWords + n * width) after ≡ drop (headWords + n * width) before
+    past n h = drop-more (headWords + slot * width + width) (headWords + n * width) before after (omega (arith, slot-ends slot n width h)) rest
 
-    apart : (other : ℕ) → (other ≡ slot → ⊥) → Dec (other < slot) → take width (drop (8 + other * width) after) ≡ take width (drop (8 + other * width) before)
+    apart : (other : ℕ) → (other ≡ slot → ⊥) → Dec (other < slot) → take width (drop (headWords + other * width) after) ≡ take width (drop (headWords + other * width) before)
     apart other ne (yes h) =
-        let e : take (8 + other * width + width) after ≡ take (8 + other * width + width) before =
-        take-less (8 + other * width + width) (8 + slot * width) before after (omega (arith, slot-ends other slot width h)) front in
-        rw (← drop-take (8 + other * width) width after, e, drop-take)
+        let e : take (headWords + other * width + width) after ≡ take (headWords + other * width + width) before =
+        take-less (headWords + other * width + width) (headWords + slot * width) before after (omega (arith, slot-ends other slot width h)) front in
+        rw (← drop-take (headWords + other * width) width after, e, drop-take)
     apart other ne (no h) = ap (take width) (past other (omega arith))
 
 -- a slot that now has the words of `part`, and nothing else written
@@ -69,12 +70,12 @@ pub record SlotWritten (width slot : ℕ) (before part after : List ℕ) : Type 
   pub only : OnlySlot width slot before after
 
 -- the part that code lends, `&mut store[at..at + width]`
-pub lent-part : (width slot at : ℕ) (words : List ℕ) → at ≡ 8 + slot * width → take (at + width - at) (drop at words) ≡ slotPart width words slot
+pub lent-part : (width slot at : ℕ) (words : List ℕ) → at ≡ headWords + slot * width → take (at + width - at) (drop at words) ≡ slotPart width words slot
 unfolding slotPart
 lent-part width slot at words e = rw (add-sub-cancel-left, e)
 
 -- and that comes back as `part`: what it held lies between the slot's start and its end
-pub slot-given-back : (width slot at : ℕ) (words part : List ℕ) → at ≡ 8 + slot * width → Within width words slot
+pub slot-given-back : (width slot at : ℕ) (words part : List ℕ) → at ≡ headWords + slot * width → Within width words slot
     → length part ≡ length (take (at + width - at) (drop at words)) → SlotWritten width slot words part (putMid at (at + width - at) words part)
 unfolding slotPart
 slot-given-back width slot at words part e within long =
@@ -89,27 +90,27 @@ slot-given-back width slot at words part e within long =
     }
 
 -- one word of a slot set
-pub slot-word-set : (width slot : ℕ) (words : List ℕ) (i j v : ℕ) → i ≡ 8 + slot * width + j → j < width
+pub slot-word-set : (width slot : ℕ) (words : List ℕ) (i j v : ℕ) → i ≡ headWords + slot * width + j → j < width
     → SlotWritten width slot words (set (slotPart width words slot) j v) (set words i v)
 unfolding slotPart
 slot-word-set width slot words i j v e h = record {
-  self = rw (e, drop-set-add, take-set-lt width (drop (8 + slot * width) words) j v h);
-  only = only-slot width slot words _ (length-set words i v) (take-set-le (8 + slot * width) words i v (omega arith))
-      (drop-set-lt (8 + slot * width + width) words i v (omega arith));
+  self = rw (e, drop-set-add, take-set-lt width (drop (headWords + slot * width) words) j v h);
+  only = only-slot width slot words _ (length-set words i v) (take-set-le (headWords + slot * width) words i v (omega arith))
+      (drop-set-lt (headWords + slot * width + width) words i v (omega arith));
 }
 
 -- one word of the store's head set, and nothing else
 pub record HeadWritten (width i v : ℕ) (before after : List ℕ) : Type 0 where
   pub long : length after ≡ length before
-  pub head : take 8 after ≡ set (take 8 before) i v
+  pub head : take headWords after ≡ set (take headWords before) i v
   pub slots : (slot : ℕ) → slotPart width after slot ≡ slotPart width before slot
-  pub past : (n : ℕ) → drop (8 + n * width) after ≡ drop (8 + n * width) before
+  pub past : (n : ℕ) → drop (headWords + n * width) after ≡ drop (headWords + n * width) before
 
 -- a word before all slots
-pub head-word-set : (width : ℕ) (words : List ℕ) (i v : ℕ) → i < 8 → HeadWritten width i v words (set words i v)
+pub head-word-set : (width : ℕ) (words : List ℕ) (i v : ℕ) → i < headWords → HeadWritten width i v words (set words i v)
 unfolding slotPart
 head-word-set width words i v h =
-    record { long = length-set words i v; head = take-set-lt 8 words i v h; slots = λ slot. ap (take width) (past slot); past = past }
+    record { long = length-set words i v; head = take-set-lt headWords words i v h; slots = λ slot. ap (take width) (past slot); past = past }
   where
-    past : (n : ℕ) → drop (8 + n * width) (set words i v) ≡ drop (8 + n * width) words
-    past n = drop-set-lt (8 + n * width) words i v (omega arith)
+    past : (n : ℕ) → drop (headWords + n * width) (set words i v) ≡ drop (headWords + n * width) words
+    past n = drop-set-lt (headWords + n * width) words i v (omega arith)

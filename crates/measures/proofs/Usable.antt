@@ -7,8 +7,8 @@ use lib.ListN.{length, take}
 use Rattle.measures.specs.declared.sizes.Sizes.{Sizes}
 use Rattle.measures.specs.declared.sizes.Layout.{Layout}
 use Rattle.measures.specs.Sizes.{sizesOf, storeWords, ValidSizes, UsableStore}
-use Rattle.measures.specs.Layout.{layoutOf, storeEnd, LaidOut, LayoutFits}
-use Rattle.measures.specs.Slot.{slotPart, Within}
+use Rattle.measures.specs.Layout.{layoutOf, storeEnd, widestSlot, LaidOut, LayoutFits}
+use Rattle.measures.specs.Slot.{slotPart, slotHead, Within}
 use Rattle.measures.proofs.Bounds.{slot-ends}
 use Rattle.measures.proofs.SlotWrites.{word-in-front, slot-length}
 
@@ -52,6 +52,14 @@ pub slot-long : (layout : Layout) (words : List ℕ) (slot : ℕ) → LayoutFits
 slot-long layout words slot fits below = slot-length (layout .width) slot words (slot-within layout slot words fits below)
 
 -- which 01's limits bound
+pub part-has-head : {layout : Layout} {words part : List ℕ} {slot : ℕ} → LayoutFits layout words → slot < layout .slots → part ≡ slotPart (layout .width) words slot
+    → slotHead ≤ length part
+part-has-head {layout} {words} {slot = slot} fits below e = omega (arith, ap length e, slot-long layout words slot fits below, fits .within .width-from)
+
+pub part-narrow : {layout : Layout} {words part : List ℕ} {slot : ℕ} → LayoutFits layout words → slot < layout .slots → part ≡ slotPart (layout .width) words slot
+    → length part ≤ widestSlot
+part-narrow {layout} {words} {slot = slot} fits below e = omega (arith, ap length e, slot-long layout words slot fits below, fits .within .width-to)
+
 pub part-length : {layout : Layout} {words part : List ℕ} {slot : ℕ} → LayoutFits layout words → slot < layout .slots → part ≡ slotPart (layout .width) words slot
-    → (8 ≤ length part) × (length part ≤ 158)
-part-length {layout} {words} {part} {slot} fits below e = omega (arith, ap length e, slot-long layout words slot fits below, fits .within .width-from, fits .within .width-to)
+    → (slotHead ≤ length part) × (length part ≤ widestSlot)
+part-length fits below e = (part-has-head fits below e, part-narrow fits below e)

@@ -1,4 +1,5 @@
 pub mod Decides
+pub mod Words
+pub mod Slot
 pub mod Sizes
 pub mod Layout
-pub mod Slot

@@ -4,12 +4,18 @@ use mathlib.Core.Path.{_≡_}
 use mathlib.Core.List.{List}
 use lib.ListN.{length, getD, drop}
 use Rattle.pktree.specs.Panel.{Panel, Valid}
+use Rattle.measures.specs.Words.{headWords, markWord}
+use Rattle.measures.specs.Slot.{slotHead}
 use Rattle.measures.specs.declared.sizes.Sizes.{Sizes}
 use Rattle.measures.specs.declared.sizes.SizesRead.{SizesRead}
 use Rattle.measures.specs.declared.sizes.SizesRead.the-variants.{Usable, Unusable}
 
 abbrev pub panelOf : Sizes → Panel
 panelOf sizes = record { order = sizes .order; k = sizes .k }
+
+-- 01: word 0
+abbrev pub registerMark : ℕ
+registerMark = 0x504B0001
 
 -- 01: the largest N
 abbrev pub largestMost : ℕ
@@ -25,13 +31,13 @@ pub record ValidSizes (sizes : Sizes) : Type 0 where
 abbrev pub slotCount : ℕ → ℕ → ℕ
 slotCount k most = 1 + (most - 1) / (k - 1)
 
--- the words of one slot
+-- the words of one slot: its head, and two for each of 5(k - 1) elements
 abbrev pub slotWidth : ℕ → ℕ
-slotWidth k = 8 + 10 * (k - 1)
+slotWidth k = slotHead + 10 * (k - 1)
 
--- 01: the words that a store needs
+-- 01: the words that a store needs, 8 + S × (8 + 10(k - 1))
 abbrev pub storeWords : Sizes → ℕ
-storeWords sizes = 8 + slotCount (sizes .k) (sizes .most) * slotWidth (sizes .k)
+storeWords sizes = headWords + slotCount (sizes .k) (sizes .most) * slotWidth (sizes .k)
 
 -- words 1 to 3
 abbrev pub sizesOf : List ℕ → Sizes
@@ -39,8 +45,8 @@ sizesOf words = record { order = getD words 1 0; k = getD words 2 0; most = getD
 
 -- refusal 3 does not apply
 pub record UsableStore (words : List ℕ) : Type 0 where
-  pub long : 8 ≤ length words
-  pub mark : getD words 0 0 ≡ 0x504B0001
+  pub long : headWords ≤ length words
+  pub mark : markWord words ≡ registerMark
   pub valid : ValidSizes (sizesOf words)
   pub enough : storeWords (sizesOf words) ≤ length words
 

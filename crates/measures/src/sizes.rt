@@ -4,9 +4,11 @@ ghost use lib.ListN.{length};
 ghost use Rattle.measures.specs.Decides.{Decides};
 ghost use Rattle.measures.specs.Sizes.{ValidSizes, storeWords, ReadSizes, WroteSizes};
 ghost use Rattle.measures.specs.Layout.{LaidOut, LayoutWithin, storeEnd};
+use crate::slots::SLOT_HEAD;
+use crate::words::HEAD_WORDS;
 
 // 01: the largest N, in this one place.
-const LARGEST_MOST: u32 = 65535;
+pub const LARGEST_MOST: u32 = 65535;
 
 // 01: word 0 of every register.
 const MARK: u32 = 0x504B0001;
@@ -57,7 +59,7 @@ pub fn layout_of(sizes: Sizes) -> Layout
     let k = sizes.k as usize;
     let most = sizes.most as usize;
     Layout {
-        width: 8 + 10 * (k - 1),
+        width: SLOT_HEAD + 10 * (k - 1),
         slots: 1 + (most - 1) / (k - 1),
     }
 }
@@ -67,14 +69,14 @@ pub fn store_end(layout: Layout) -> usize
     requires { ⌜ LayoutWithin layout ⌝ }
     ensures { λ r. ⌜ r ≡ storeEnd layout ⌝ }
 {
-    8 + layout.slots * layout.width
+    HEAD_WORDS + layout.slots * layout.width
 }
 
 // The one place that judges words 0 to 3 and the length: refusal 3.
 pub fn read_sizes(store: &[u32]) -> SizesRead
     ensures { λ r. ⌜ ReadSizes (now (store .entry)) r ⌝ }
 {
-    if store.len() < 8 {
+    if store.len() < HEAD_WORDS {
         return SizesRead::Unusable;
     }
     if store[0] != MARK {

@@ -6,6 +6,7 @@ use native.Mathlib.Nat.{pow-suc, zero-lt-suc, one-le-pow, pow-succ', div-div-eq-
 use native.Mathlib.Omega.{arith}
 use lib.Arith.{mod-mul}
 use lib.Bits.{bitOr, or-block, or-shifted-r}
+use Rattle.morton.specs.Coordinate.{largestSide}
 use Rattle.morton.specs.Code.{spreadBits, gatherBits, interleave, codeOf, xOf, yOf}
 
 -- the lowest digit to the base b, and the rest
@@ -44,10 +45,10 @@ code-of-bits (suc n) c =
     rw (hp, hq, sw, code-of-bits n (c / 4)) (omega (arith, low-suc 4 c n (zero-lt-suc 3)))
 
 -- there and back, on every pair of 16 bits and on every code of 32
-pub x-of-code : (x y : ℕ) → x < 65536 → xOf (codeOf x y) ≡ x
+pub x-of-code : (x y : ℕ) → x < largestSide → xOf (codeOf x y) ≡ x
 x-of-code x y h = even-bits-of-code 16 x y ∙ mod-eq-of-lt h
 
-pub y-of-code : (x y : ℕ) → y < 65536 → yOf (codeOf x y) ≡ y
+pub y-of-code : (x y : ℕ) → y < largestSide → yOf (codeOf x y) ≡ y
 y-of-code x y h = odd-bits-of-code 16 x y ∙ mod-eq-of-lt h
 
 pub code-of-coordinates : (c : ℕ) → c < 4 ^ 16 → codeOf (xOf c) (yOf c) ≡ c
@@ -84,7 +85,7 @@ code-below m c h = (
   (λ b. rw (code-of-coordinates c h) at (interleave-below 16 m (xOf c) (yOf c) (b .0) (b .1))),
 )
 
-pub code-of-below : (m x y : ℕ) → x < 65536 → y < 65536 → (codeOf x y < 4 ^ m) ↔ ((x < 2 ^ m) × (y < 2 ^ m))
+pub code-of-below : (m x y : ℕ) → x < largestSide → y < largestSide → (codeOf x y < 4 ^ m) ↔ ((x < 2 ^ m) × (y < 2 ^ m))
 code-of-below m x y hx hy = (
   (λ b. (rw (x-of-code x y hx) at (gather-within 16 m (codeOf x y) b), rw (y-of-code x y hy) at (gather-within 16 m (codeOf x y / 2) (omega arith)))),
   (λ b. interleave-below 16 m x y (b .0) (b .1)),

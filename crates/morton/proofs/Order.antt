@@ -9,8 +9,9 @@ use lib.Dec.{leb}
 use lib.Pow.{split}
 use lib.Bits.{bitAnd, and-block, and-zero-r}
 use borrow.Author.Tests.{lt-leb, le-leb}
+use Rattle.morton.specs.Coordinate.{largestSide}
 use Rattle.morton.specs.Code.{spreadBits, xOf, yOf}
-use Rattle.morton.specs.Between.{Between}
+use Rattle.morton.specs.Coordinate.{Between}
 use Rattle.morton.proofs.Fields.{evens, laid-bits, even-bits}
 
 -- on numbers of n bits, f ascends
@@ -55,7 +56,7 @@ same-order n f up a b ha hb = go (decLt b a)
     go (yes h) = lt-leb (f a) (f b) (up b a ha h) ∙ sym (lt-leb a b h)
     go (no h) = le-leb (f a) (f b) (ascends-le n f up a b hb (omega arith)) ∙ sym (le-leb a b (omega arith))
 
-pub between-ascending : (f : ℕ → ℕ) → Ascends 16 f → {a b c p q s : ℕ} {r : Bool} → a < 65536 → b < 65536 → c < 65536 → p ≡ f a → q ≡ f b → s ≡ f c
+pub between-ascending : (f : ℕ → ℕ) → Ascends 16 f → {a b c p q s : ℕ} {r : Bool} → a < largestSide → b < largestSide → c < largestSide → p ≡ f a → q ≡ f b → s ≡ f c
     → Between p q s r → Between a b c r
 between-ascending f up {a} {b} {c} ha hb hc ep eq es h =
     record {

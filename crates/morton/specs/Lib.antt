@@ -1,4 +1,3 @@
 pub mod Code
 pub mod Coordinate
 pub mod CommonLevel
-pub mod Between

@@ -1,14 +1,14 @@
 ghost use mathlib.Core.Path.{_≡_};
 ghost use Prim.Native.Nat.{_*_, _/_, _^_, _≤_, _<_};
 ghost use Rattle.morton.specs.Code.{spreadBits, gatherBits, codeOf, xOf, yOf};
-ghost use Rattle.morton.specs.Between.{Between};
-ghost use Rattle.morton.specs.Coordinate.{Coordinate};
+ghost use Rattle.morton.specs.Coordinate.{Between};
+ghost use Rattle.morton.specs.Coordinate.{Coordinate, largestSide};
 ghost use Rattle.morton.specs.CommonLevel.{CommonLevel};
 use std::num::wrapping_sub_u32;
 
 // Each bit of a coordinate moves to twice its place: four halvings of the fields, as 01's last section asks.
 fn spread(x: u32) -> u32
-    requires { ⌜ x < 65536 ⌝ }
+    requires { ⌜ x < largestSide ⌝ }
     ensures { λ r. ⌜ r ≡ spreadBits 16 x ⌝ }
 {
     let a = (x | (x << 8)) & 0x00ff_00ff;
@@ -29,7 +29,7 @@ fn gather(code: u32) -> u32
 }
 
 pub fn code_of(x: u32, y: u32) -> u32
-    requires { ⌜ (x < 65536) × (y < 65536) ⌝ }
+    requires { ⌜ (x < largestSide) × (y < largestSide) ⌝ }
     ensures { λ r. ⌜ r ≡ codeOf x y ⌝ }
 {
     spread(x) | (spread(y) << 1)

@@ -3,9 +3,9 @@ use Prim.Native.Nat.{ℕ}
 use mathlib.Core.Path.{_≡_, ap, sym}
 use Rattle.register.specs.declared.Outcome.{Outcome}
 use Rattle.register.specs.declared.Outcome.the-variants.{Done, Refused}
+use Rattle.promises.specs.Answer.{refused}
 use Rattle.register.specs.Answer.{answer}
-use Rattle.pkreg.specs.Numbers.{alone}
 
-pub outcome-alone : (outcome : Outcome) (refusal : ℕ) → refusal ≡ answer outcome .refusal → answer outcome ≡ alone refusal
-outcome-alone Done refusal e = ap alone (sym e)
-outcome-alone (Refused reason) refusal e = ap alone (sym e)
+pub outcome-alone : (outcome : Outcome) (refusal : ℕ) → refusal ≡ answer outcome .refusal → answer outcome ≡ refused refusal
+outcome-alone Done refusal e = ap refused (sym e)
+outcome-alone (Refused reason) refusal e = ap refused (sym e)

@@ -3,8 +3,8 @@ use Prim.Native.Nat.{ℕ}
 use native.Mathlib.Omega.{arith}
 use mathlib.Core.Path.{_≡_, refl}
 use Rattle.measures.specs.Sizes.{ValidSizes, storeWords}
-use Rattle.register.specs.Calls.{asked}
-use Rattle.pkreg.specs.Words.{WordsNeeded}
+use Rattle.promises.specs.Calls.{asked}
+use Rattle.pkreg.specs.Numbers.{WordsNeeded}
 
 -- sizes that are within the limits are so with the order 1
 smallest-panel : (m k n : ℕ) → ValidSizes (asked m k n) → ValidSizes (asked 1 k n)

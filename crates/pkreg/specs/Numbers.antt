@@ -1,12 +1,16 @@
 -- What a caller from another language gets: 01's number and values.
 use Prim.Native.Nat.{ℕ}
-use Rattle.register.specs.Answer.{Answer, refused}
+use Rattle.promises.specs.Answer.{Answer}
 use Rattle.pkreg.specs.declared.PkAnswer.{PkAnswer}
+use mathlib.Core.Path.{_≡_}
+use Rattle.measures.specs.Sizes.{ValidSizes, storeWords}
+use Rattle.promises.specs.Calls.{asked}
 
--- make, mark, clear and load hand over the refusal alone; no value is beside it
-abbrev pub alone : ℕ → Answer
-alone refusal = refused refusal
-
--- the other calls hand over all three
+-- all three; make, mark, clear and load hand over the refusal alone, and no value is beside it
 abbrev pub numbers : PkAnswer → Answer
 numbers r = record { refusal = r .refusal; first = r .first; second = r .second }
+
+-- the formula for k and N within their limits, whatever the order m; 0 where make refuses them with every m
+pub record WordsNeeded (k n r : ℕ) : Type 0 where
+  pub needed : (m : ℕ) → ValidSizes (asked m k n) → r ≡ storeWords (asked m k n)
+  pub none : ((m : ℕ) → ValidSizes (asked m k n) → ⊥) → r ≡ 0

@@ -1,11 +1,11 @@
 // The register for C, and for what calls C: numbers and slices only, each call register's own. None has a requires; each has one
 // ensures, register's own, of the numbers handed over.
 ghost use mathlib.Core.Path.{_≡_};
-ghost use Rattle.register.specs.Answer.{numberOf, yesNo};
-ghost use Rattle.register.specs.Answer as answers;
-ghost use Rattle.register.specs.Calls.{MakeMeets, MarkMeets, ClearMeets, LoadMeets, AskMeets, CountMeets, ListMeets, SaveMeets, CheckMeets};
-ghost use Rattle.pkreg.specs.Numbers.{alone, numbers};
-ghost use Rattle.pkreg.specs.Words.{WordsNeeded};
+ghost use Rattle.promises.specs.Answer.{yesNo};
+ghost use Rattle.register.specs.Answer.{numberOf};
+ghost use Rattle.promises.specs.Answer as answers;
+ghost use Rattle.promises.specs.Calls.{MakeMeets, MarkMeets, ClearMeets, LoadMeets, AskMeets, CountMeets, ListMeets, SaveMeets, CheckMeets};
+ghost use Rattle.pkreg.specs.Numbers.{numbers, WordsNeeded};
 use measures::sizes::Sizes;
 use measures::sizes::layout_of;
 use measures::sizes::store_end;
@@ -63,16 +63,12 @@ fn yes_no(marked: bool) -> u32
     if marked { 1 } else { 0 }
 }
 
-// The words that a store needs, 0 for a k or an n (01's N) beyond its limits. They do not depend on the order.
+// The words that a store needs, 0 for a k or a `most` (01's N) beyond its limits. They do not depend on the order.
 #[no_mangle]
-pub extern "C" fn pk_words(k: u32, n: u32) -> u64
-    ensures { λ r. ⌜ WordsNeeded k n r ⌝ }
+pub extern "C" fn pk_words(k: u32, most: u32) -> u64
+    ensures { λ r. ⌜ WordsNeeded k most r ⌝ }
 {
-    let sizes = Sizes {
-        order: 1,
-        k,
-        most: n,
-    };
+    let sizes = Sizes { order: 1, k, most };
     if !within_limits(sizes) {
         return 0;
     }
@@ -80,29 +76,29 @@ pub extern "C" fn pk_words(k: u32, n: u32) -> u64
 }
 
 #[no_mangle]
-pub extern "C" fn pk_make(store: &mut [u32], m: u32, k: u32, n: u32) -> u32
-    ensures { λ r. ⌜ MakeMeets (now (store .entry)) (now (store .exit)) m k n (alone r) ⌝ }
+pub extern "C" fn pk_make(store: &mut [u32], m: u32, k: u32, most: u32) -> u32
+    ensures { λ r. ⌜ MakeMeets (now (store .entry)) (now (store .exit)) m k most (answers.refused r) ⌝ }
 {
-    refusal_of(register::make(store, m, k, n))
+    refusal_of(register::make(store, m, k, most))
 }
 
 #[no_mangle]
 pub extern "C" fn pk_mark(store: &mut [u32], x: u32, y: u32) -> u32
-    ensures { λ r. ⌜ MarkMeets (now (store .entry)) (now (store .exit)) x y (alone r) ⌝ }
+    ensures { λ r. ⌜ MarkMeets (now (store .entry)) (now (store .exit)) x y (answers.refused r) ⌝ }
 {
     refusal_of(register::mark(store, x, y))
 }
 
 #[no_mangle]
 pub extern "C" fn pk_clear(store: &mut [u32], x: u32, y: u32) -> u32
-    ensures { λ r. ⌜ ClearMeets (now (store .entry)) (now (store .exit)) x y (alone r) ⌝ }
+    ensures { λ r. ⌜ ClearMeets (now (store .entry)) (now (store .exit)) x y (answers.refused r) ⌝ }
 {
     refusal_of(register::clear(store, x, y))
 }
 
 #[no_mangle]
 pub extern "C" fn pk_load(store: &mut [u32], image: &[u8]) -> u32
-    ensures { λ r. ⌜ LoadMeets (now (store .entry)) (now (store .exit)) (now (image .entry)) (alone r) ⌝ }
+    ensures { λ r. ⌜ LoadMeets (now (store .entry)) (now (store .exit)) (now (image .entry)) (answers.refused r) ⌝ }
 {
     refusal_of(register::load(store, image))
 }

@@ -9,7 +9,7 @@ use lib.ListN.{length, length-append}
 use borrow.Author.Tests.{ne-eqb}
 use Rattle.pktree.specs.Lists.{Every}
 use Rattle.pktree.specs.Panel.{Panel, Valid}
-use Rattle.pktree.specs.Elements.{Forest, empty, pixel, block, blockAt, _⧺_, gather}
+use Rattle.pktree.specs.Elements.{Forest, empty, pixel, blockAt, _⧺_, gather}
 use Rattle.pktree.specs.Tree.{tree, blocks, pixels}
 use Rattle.pktree.specs.Entries.{Entry, entries, pixelEntries}
 use Rattle.pktree.proofs.Alignment.{pow-pos, aligned-root}

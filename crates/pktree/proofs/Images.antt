@@ -13,7 +13,7 @@ use Rattle.pktree.specs.Panel.{Panel, Valid}
 use Rattle.pktree.specs.PixelSet.{member, PixelSet}
 use Rattle.pktree.specs.Tree.{tree}
 use Rattle.pktree.specs.Entries.{Entry, entry, entries, pixelEntries}
-use Rattle.pktree.specs.Image.{fourBytes, codeBytes, levelBytes, header, arrays, image}
+use Rattle.pktree.specs.Image.{fourBytes, codeBytes, levelBytes, header, arrays, image, headerLength}
 use Rattle.pktree.proofs.Pixels.{pixels-of-set}
 use Rattle.pktree.proofs.EntryOrder.{pixel-entries-of-tree, EntryWithin, entries-within}
 use Rattle.pktree.proofs.Absurd.{zero-is-not-one}
@@ -51,7 +51,7 @@ length-level-bytes (e ∷ l) = ap suc (length-level-bytes l)
 pub length-arrays : (l : List Entry) → length (arrays l) ≡ 5 * length l
 length-arrays l = omega (arith, length-append (codeBytes l) (levelBytes l), length-code-bytes l, length-level-bytes l)
 
-pub image-length : (panel : Panel) (set : List ℕ) → length (image panel set) ≡ 10 + 5 * length (entries (tree panel (member set)))
+pub image-length : (panel : Panel) (set : List ℕ) → length (image panel set) ≡ headerLength + 5 * length (entries (tree panel (member set)))
 image-length panel set = omega (arith, length-arrays (entries (tree panel (member set))))
 
 -- two lists that are cut at the same place
@@ -109,7 +109,7 @@ image-determines-set panel panel′ set set′ v v′ s s′ = (to, (λ p. ap₂
 
     to : image panel set ≡ image panel′ set′ → (panel ≡ panel′) × (set ≡ set′)
     to e =
-        let a : arrays es ≡ arrays es′ = ap (drop 10) e in
+        let a : arrays es ≡ arrays es′ = ap (drop headerLength) e in
         let f : es ≡ es′ =
         arrays-determine es es′ (panel .order) (panel′ .order) (entries-in-32-bits panel (member set) v) (entries-in-32-bits panel′ (member set′) v′) a in
         (panel-equal panel panel′ (cc) (cc), sym (set-of panel set v s) ∙ ap pixelEntries f ∙ set-of panel′ set′ v′ s′)

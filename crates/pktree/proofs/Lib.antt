@@ -18,3 +18,4 @@ pub mod OneChange
 pub mod Images
 pub mod InTree
 pub mod Windows
+pub mod Samples

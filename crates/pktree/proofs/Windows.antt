@@ -25,6 +25,7 @@ use mathlib.Core.Bool.{Bool, true, false, _&&_, _||_, false≢true, or-true, and
 use lib.Dec.{leb}
 use lib.Pow.{pow-add, pow-pos as side-pos}
 use borrow.Author.Tests.{le-leb, leb-true}
+use Rattle.morton.specs.Coordinate.{largestSide}
 use Rattle.morton.specs.Code.{gatherBits, interleave, codeOf, xOf, yOf}
 use Rattle.morton.proofs.Codes.{x-of-code, y-of-code, code-of-coordinates, interleave-below, gather-below}
 use Rattle.morton.proofs.Blocks.{block-of-code, gather-of-block}
@@ -122,8 +123,8 @@ on-grid n i g z h e =
 pub record Corner (level code : ℕ) : Type 0 where
   pub grid-x : xOf code / 2 ^ level * 2 ^ level ≡ xOf code
   pub grid-y : yOf code / 2 ^ level * 2 ^ level ≡ yOf code
-  pub room-x : xOf code + 2 ^ level ≤ 65536
-  pub room-y : yOf code + 2 ^ level ≤ 65536
+  pub room-x : xOf code + 2 ^ level ≤ largestSide
+  pub room-y : yOf code + 2 ^ level ≤ largestSide
 
 pub corner-of-aligned : (level code : ℕ) → level ≤ 16 → Aligned level code → Corner level code
 corner-of-aligned level code h a =
@@ -193,8 +194,8 @@ corners-meet-exactly panel window level code es valid block wx wy =
       (λ t. let x : ℕ = max (window .x0) (xOf code) in
           let y : ℕ = max (window .y0) (yOf code) in
           let p : ℕ = codeOf x y in
-          let hx : x < 65536 = omega arith in
-          let hy : y < 65536 = omega arith in
+          let hx : x < largestSide = omega arith in
+          let hy : y < largestSide = omega arith in
           let px : xOf p ≡ x = x-of-code x y hx in
           let py : yOf p ≡ y = y-of-code x y hy in
           let square = block-is-square panel level code p valid block (interleave-below 16 16 x y hx hy) .1 (omega arith) in

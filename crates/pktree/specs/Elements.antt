@@ -3,9 +3,8 @@ use Prim.Native.Nat.{ℕ, zero, suc, _+_, _*_, _^_}
 use mathlib.Core.Bool.{Bool, cond}
 use lib.Dec.{ltb}
 
--- elements in ascending order: nothing; a pixel by its code, and what follows it;
--- a block by its level, its code and its own elements, and what follows it
--- each block with a label of type A
+-- elements in ascending order: none; a pixel by its code, before the elements that follow it; or a block by its label, level, code and
+-- own elements, before those that follow it. The labels say something more of each block: in a store, its slot; in 01's tree, nothing.
 pub data ForestOf (A : Type 0) : Type 0 where
   empty : ForestOf A
   pixel : ℕ → ForestOf A → ForestOf A

@@ -3,7 +3,7 @@ use Prim.Native.Nat.{ℕ}
 use mathlib.Core.Bool.{cond}
 use mathlib.Core.List.{List, [], _∷_, _++_}
 use lib.Dec.{eqb}
-use Rattle.pktree.specs.Elements.{Forest, empty, pixel, block, blockAt}
+use Rattle.pktree.specs.Elements.{Forest, empty, pixel, blockAt}
 
 pub record Entry : Type 0 where
   pub level : ℕ

@@ -19,6 +19,10 @@ abbrev pub levelBytes : List Entry → List ℕ
 levelBytes [] = []
 levelBytes (e ∷ es) = e .level ∷ levelBytes es
 
+-- m, k, e and n take so many bytes
+abbrev pub headerLength : ℕ
+headerLength = 10
+
 -- m, k, the number of entries and the number of pixels
 abbrev pub header : Panel → ℕ → ℕ → List ℕ
 header panel e n = (panel .order ∷ panel .k ∷ []) ++ (fourBytes e ++ fourBytes n)

@@ -1,10 +1,10 @@
 -- 01 "Sample panels": the starred lines, of the definitions, in one theorem.
 use Prim.Native.Nat.{ℕ}
-use mathlib.Core.Path.{_≡_, refl}
+use mathlib.Core.Path.{_≡_}
 use mathlib.Core.List.{List, [], _∷_}
-use Rattle.morton.specs.Code.{interleave, codeOf}
+use Rattle.morton.specs.Code.{codeOf}
 use Rattle.pktree.specs.Panel.{Panel}
-use Rattle.pktree.specs.PixelSet.{member}
+use Rattle.pktree.specs.PixelSet.{member, added, removed}
 use Rattle.pktree.specs.Elements.{size, gather}
 use Rattle.pktree.specs.Tree.{tree}
 use Rattle.pktree.specs.Entries.{Entry, entry, entries}
@@ -19,45 +19,36 @@ small = record { order = 1; k = 2 }
 abbrev entriesOf : Panel → List ℕ → List Entry
 entriesOf p set = entries (tree p (member set))
 
+-- the panels of three lines, from which the lines after them go on
+abbrev first-panel : List ℕ
+first-panel = 0 ∷ 1 ∷ 2 ∷ 60 ∷ []
+
+abbrev second-panel : List ℕ
+second-panel = 0 ∷ 1 ∷ 4 ∷ []
+
+abbrev third-panel : List ℕ
+third-panel = 0 ∷ 1 ∷ 16 ∷ 17 ∷ 32 ∷ 33 ∷ 48 ∷ 49 ∷ []
+
 -- the number of elements of the block of this level and code
 abbrev elementsOf : List ℕ → ℕ → ℕ → ℕ
 elementsOf set level code = size (gather (member set) 3 level code)
 
 pub record StarredLines : Type 0 where
-  pub first : entriesOf panel (0 ∷ 1 ∷ 2 ∷ 60 ∷ []) ≡ entry 3 0 ∷ entry 1 0 ∷ entry 0 0 ∷ entry 0 1 ∷ entry 0 2 ∷ entry 0 60 ∷ []
-  pub then-clear-1 : entriesOf panel (0 ∷ 2 ∷ 60 ∷ []) ≡ entry 3 0 ∷ entry 0 0 ∷ entry 0 2 ∷ entry 0 60 ∷ []
-  pub second : entriesOf panel (0 ∷ 1 ∷ 4 ∷ []) ≡ entry 3 0 ∷ entry 2 0 ∷ entry 0 0 ∷ entry 0 1 ∷ entry 0 4 ∷ []
-  pub then-mark-2 : entriesOf panel (0 ∷ 1 ∷ 2 ∷ 4 ∷ []) ≡ entry 3 0 ∷ entry 1 0 ∷ entry 0 0 ∷ entry 0 1 ∷ entry 0 2 ∷ entry 0 4 ∷ []
+  pub first : entriesOf panel first-panel ≡ entry 3 0 ∷ entry 1 0 ∷ entry 0 0 ∷ entry 0 1 ∷ entry 0 2 ∷ entry 0 60 ∷ []
+  pub then-clear-1 : entriesOf panel (removed 1 first-panel) ≡ entry 3 0 ∷ entry 0 0 ∷ entry 0 2 ∷ entry 0 60 ∷ []
+  pub second : entriesOf panel second-panel ≡ entry 3 0 ∷ entry 2 0 ∷ entry 0 0 ∷ entry 0 1 ∷ entry 0 4 ∷ []
+  pub then-mark-2 : entriesOf panel (added 2 second-panel) ≡ entry 3 0 ∷ entry 1 0 ∷ entry 0 0 ∷ entry 0 1 ∷ entry 0 2 ∷ entry 0 4 ∷ []
   -- "Mistakes close at hand": the level 2 block then has 4 pixels and 2 elements
-  pub two-elements : elementsOf (0 ∷ 1 ∷ 2 ∷ 4 ∷ []) 2 0 ≡ 2
+  pub two-elements : elementsOf (added 2 second-panel) 2 0 ≡ 2
   pub root-alone :
-      entriesOf panel (0 ∷ 1 ∷ 16 ∷ 17 ∷ 32 ∷ 33 ∷ 48 ∷ 49 ∷ [])
+      entriesOf panel third-panel
       ≡ entry 3 0 ∷ entry 0 0 ∷ entry 0 1 ∷ entry 0 16 ∷ entry 0 17 ∷ entry 0 32 ∷ entry 0 33 ∷ entry 0 48 ∷ entry 0 49 ∷ []
-  pub eight-elements : elementsOf (0 ∷ 1 ∷ 16 ∷ 17 ∷ 32 ∷ 33 ∷ 48 ∷ 49 ∷ []) 3 0 ≡ 8
+  pub eight-elements : elementsOf third-panel 3 0 ≡ 8
   pub then-mark-4 :
-      entriesOf panel (0 ∷ 1 ∷ 4 ∷ 16 ∷ 17 ∷ 32 ∷ 33 ∷ 48 ∷ 49 ∷ [])
+      entriesOf panel (added 4 third-panel)
       ≡ entry 3 0 ∷ entry 2 0 ∷ entry 0 0 ∷ entry 0 1 ∷ entry 0 4 ∷ entry 0 16 ∷ entry 0 17 ∷ entry 0 32 ∷ entry 0 33 ∷ entry 0 48 ∷ entry 0 49 ∷ []
-  pub seven-elements : elementsOf (0 ∷ 1 ∷ 4 ∷ 16 ∷ 17 ∷ 32 ∷ 33 ∷ 48 ∷ 49 ∷ []) 3 0 ≡ 7
+  pub seven-elements : elementsOf (added 4 third-panel) 3 0 ≡ 7
   pub small-empty : entriesOf small [] ≡ entry 1 0 ∷ []
   pub small-full : entriesOf small (0 ∷ 1 ∷ 2 ∷ 3 ∷ []) ≡ entry 1 0 ∷ entry 0 0 ∷ entry 0 1 ∷ entry 0 2 ∷ entry 0 3 ∷ []
   pub code-27 : codeOf 5 3 ≡ 27
   pub code-last : codeOf 65535 65535 ≡ 4294967295
-
-pub starred-lines : StarredLines
-unfolding gather interleave
-starred-lines =
-    record {
-      first = refl;
-      then-clear-1 = refl;
-      second = refl;
-      then-mark-2 = refl;
-      two-elements = refl;
-      root-alone = refl;
-      eight-elements = refl;
-      then-mark-4 = refl;
-      seven-elements = refl;
-      small-empty = refl;
-      small-full = refl;
-      code-27 = refl;
-      code-last = refl;
-    }

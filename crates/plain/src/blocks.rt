@@ -1,72 +1,64 @@
-// 01 "Blocks": the entries of a set's image, its instantiated blocks and, at level 0, its pixels. They stand behind the plain set's codes:
-// word 65 is their number; then level and code of each, in no order.
-ghost use Prim.Native.Nat.{_+_, _*_, _%_};
-ghost use mathlib.Core.Path.{_≡_};
-ghost use lib.ListN.{length, getD};
-use crate::codes::last_code;
-use crate::codes::quarter;
-use crate::panel::Panel;
-use crate::set::number_between;
-use crate::words::add_one;
-use crate::words::product_and;
-use crate::words::put;
-use crate::words::word;
+// 01 "Blocks".
+use crate::codes::size_of;
 
-pub fn entry_number(plain: &[u32]) -> u32
-    ensures { λ r. ⌜ r ≡ getD (now (plain .entry)) 65 0 ⌝ }
-{
-    word(plain, 65)
+// A panel of order m with its k. N is the most pixels that its register may hold, words the length that the store needs.
+pub struct Panel {
+    pub m: u32,
+    pub k: u8,
+    pub most: u32,
+    pub words: usize,
 }
 
-pub fn level_of(plain: &[u32], i: u32) -> u32
-    ensures { λ r. ⌜ r ≡ getD (now (plain .entry)) ((i * 2 + 66) % 4294967296) 0 ⌝ }
-{
-    word(plain, product_and(i, 2, 66))
+// Which pixels are marked, by their codes.
+pub type Set = [bool; 256];
+
+pub fn is_marked(set: &Set, code: u32) -> bool {
+    set[(code % 256) as usize]
 }
 
-pub fn entry_code(plain: &[u32], i: u32) -> u32
-    ensures { λ r. ⌜ r ≡ getD (now (plain .entry)) ((i * 2 + 67) % 4294967296) 0 ⌝ }
-{
-    word(plain, product_and(i, 2, 67))
+pub fn put(set: &mut Set, code: u32, marked: bool) {
+    set[(code % 256) as usize] = marked;
 }
 
-fn note(plain: &mut [u32], level: u32, code: u32) {
-    let number = entry_number(plain);
-    put(plain, product_and(number, 2, 66), level);
-    put(plain, product_and(number, 2, 67), code);
-    add_one(plain, 65);
-}
-
-pub fn work_out(panel: Panel, plain: &mut [u32])
-    ensures { λ _. ⌜ length (now (plain .exit)) ≡ length (now (plain .entry)) ⌝ }
-{
-    put(plain, 65, 0);
-    given_by(panel, panel.order, 0, plain);
-}
-
-// How many elements this block gives to the block around it. A block without a pixel is cut off here.
-fn given_by(panel: Panel, level: u32, code: u32, plain: &mut [u32]) -> u32 {
-    if number_between(plain, code, last_code(level, code)) == 0 {
-        return gathered(panel, level, code, 0, plain);
-    }
-    if level == 0 {
-        note(plain, level, code);
-        return 1;
+// How many elements a block has: those of a level 0 block are its pixel if marked, else none; those of a larger block are gathered from its four quarters.
+fn elements(set: &Set, k: u8, level: u32, code: u32) -> u32 {
+    if level < 1 {
+        return pixels(set, code);
     }
     let below = level - 1;
-    let sw = given_by(panel, below, code, plain);
-    let se = given_by(panel, below, quarter(below, code, 1), plain);
-    let nw = given_by(panel, below, quarter(below, code, 2), plain);
-    let ne = given_by(panel, below, quarter(below, code, 3), plain);
-    let number = product_and(product_and(sw, 1, se), 1, product_and(nw, 1, ne));
-    gathered(panel, level, code, number, plain)
+    let size = size_of(below);
+    let sw = given(k, elements(set, k, below, code));
+    let se = given(k, elements(set, k, below, code | size));
+    let nw = given(k, elements(set, k, below, code | (2 * size)));
+    let ne = given(k, elements(set, k, below, code | (3 * size)));
+    sum(sw, se, nw, ne)
 }
 
-// A block with k or more elements gives itself, as one; the root is instantiated whatever it has.
-fn gathered(panel: Panel, level: u32, code: u32, number: u32, plain: &mut [u32]) -> u32 {
-    if level == panel.order || panel.k <= number {
-        note(plain, level, code);
-        return 1;
+fn pixels(set: &Set, code: u32) -> u32 {
+    if is_marked(set, code) { 1 } else { 0 }
+}
+
+// A quarter with fewer than k elements gives those elements; one with k or more gives itself, as one element.
+fn given(k: u8, number: u32) -> u8 {
+    if number < (k as u32) {
+        return number as u8;
     }
-    number
+    1
+}
+
+fn sum(sw: u8, se: u8, nw: u8, ne: u8) -> u32 {
+    (sw as u32) + (se as u32) + (nw as u32) + (ne as u32)
+}
+
+// A block is instantiated when it has at least k elements, or is the root.
+fn is_instantiated(panel: Panel, set: &Set, level: u32, code: u32) -> bool {
+    level == panel.m || (panel.k as u32) <= elements(set, panel.k, level, code)
+}
+
+// An entry of the set's image: a pixel, at level 0, or an instantiated block.
+pub fn is_entry(panel: Panel, set: &Set, level: u32, code: u32) -> bool {
+    if level < 1 {
+        return is_marked(set, code);
+    }
+    level <= panel.m && code % size_of(level) == 0 && is_instantiated(panel, set, level, code)
 }

@@ -1,112 +1,106 @@
-// The plain set program's answers: what 01 says of each call on a sound store.
+// What 01 says that each call answers, and the set that it leaves. The store has `length` words; a refusal is 01's number, 0 for none.
 ghost use Prim.Native.Nat.{_≤_};
-ghost use mathlib.Core.Logic.{_⊎_};
-ghost use Rattle.plain.specs.Decides.{Decides};
-ghost use Rattle.plain.specs.Block.{sideOf};
-use crate::answer::Answer;
-use crate::answer::answered;
-use crate::answer::done;
-use crate::answer::number_of;
-use crate::answer::refused;
-use crate::answer::too_short;
-use crate::blocks::work_out;
+use crate::blocks;
+use crate::blocks::Panel;
+use crate::blocks::Set;
 use crate::codes::code_of;
 use crate::codes::side_of;
-use crate::image::image_length;
-use crate::image::write_image;
-use crate::panel::Panel;
-use crate::panel::within_limits;
-use crate::panel::words_needed;
-use crate::set::add;
-use crate::set::holds;
-use crate::set::number;
-use crate::set::remove;
-use crate::windows::Window;
-use crate::windows::found_in;
-use crate::windows::opened_by;
-use crate::windows::write_found;
-use crate::words::place;
-use crate::words::put;
+use crate::images;
+use crate::window;
+use crate::window::Window;
 
-pub fn off_panel(panel: Panel, x: u32, y: u32) -> bool
-    ensures { λ r. ⌜ Decides r ((sideOf (panel .order) ≤ x) ⊎ (sideOf (panel .order) ≤ y)) ⌝ }
-{
-    let side = side_of(panel.order);
-    if side <= x {
-        return true;
-    }
-    side <= y
+// A refusal and the values beside it.
+pub struct Answer {
+    pub refusal: u32,
+    pub first: usize,
+    pub second: usize,
 }
 
-pub fn make(panel: Panel, length: usize, plain: &mut [u32]) -> Answer
-    ensures { λ r. ⌜ r .number ≤ 2 ⌝ }
-{
-    if !within_limits(panel) {
-        return refused(1);
+pub fn answered(refusal: u32, first: usize, second: usize) -> Answer {
+    Answer {
+        refusal,
+        first,
+        second,
     }
-    if length < place(words_needed(panel)) {
-        return refused(2);
-    }
-    put(plain, 0, 0);
-    work_out(panel, plain);
-    done()
 }
 
-pub fn mark(panel: Panel, x: u32, y: u32, plain: &mut [u32]) -> Answer
-    ensures { λ r. ⌜ r .number ≤ 6 ⌝ }
-{
-    if off_panel(panel, x, y) {
-        return refused(4);
-    }
-    if holds(plain, code_of(x, y)) {
-        return refused(5);
-    }
-    if panel.most <= number(plain) {
-        return refused(6);
-    }
-    add(plain, code_of(x, y));
-    work_out(panel, plain);
-    done()
+pub fn refused(refusal: u32) -> Answer {
+    answered(refusal, 0, 0)
 }
 
-pub fn clear(panel: Panel, x: u32, y: u32, plain: &mut [u32]) -> Answer
-    ensures { λ r. ⌜ r .number ≤ 7 ⌝ }
+// 01: S = 1 + floor((N-1)/(k-1)) slots; the store needs 8 + S × (8 + 10(k-1)) words.
+pub fn words_needed(k: u32, most: u32) -> usize
+    requires { ⌜ (2 ≤ k) × (k ≤ 16) × (1 ≤ most) × (most ≤ 65535) ⌝ }
 {
-    if off_panel(panel, x, y) {
-        return refused(4);
-    }
-    if !holds(plain, code_of(x, y)) {
-        return refused(7);
-    }
-    remove(plain, code_of(x, y));
-    work_out(panel, plain);
-    done()
+    let others = k - 1;
+    let slots = 1 + (most - 1) / others;
+    (8 + slots * (8 + 10 * others)) as usize
 }
 
-pub fn ask(panel: Panel, x: u32, y: u32, plain: &[u32]) -> Answer
-    ensures { λ r. ⌜ r .number ≤ 4 ⌝ }
-{
-    if off_panel(panel, x, y) {
-        return refused(4);
+pub fn make(m: u32, k: u32, most: u32, length: usize, set: &mut Set) -> u32 {
+    if m < 1 || 16 < m || k < 2 || 16 < k || most < 1 || 65535 < most {
+        return 1;
     }
+    if length < words_needed(k, most) {
+        return 2;
+    }
+    *set = [false; 256];
+    0
+}
+
+fn pixel_refusal(panel: Panel, length: usize, x: u32, y: u32) -> u32 {
+    if length < panel.words {
+        return 3;
+    }
+    let side = side_of(panel.m);
+    if side <= x || side <= y {
+        return 4;
+    }
+    0
+}
+
+pub fn mark(panel: Panel, length: usize, x: u32, y: u32, set: &mut Set) -> u32 {
+    let refusal = pixel_refusal(panel, length, x, y);
+    if refusal != 0 {
+        return refusal;
+    }
+    if blocks::is_marked(set, code_of(x, y)) {
+        return 5;
+    }
+    if panel.most <= images::pixel_number(panel, set) {
+        return 6;
+    }
+    blocks::put(set, code_of(x, y), true);
+    0
+}
+
+pub fn clear(panel: Panel, length: usize, x: u32, y: u32, set: &mut Set) -> u32 {
+    let refusal = pixel_refusal(panel, length, x, y);
+    if refusal != 0 {
+        return refusal;
+    }
+    if !blocks::is_marked(set, code_of(x, y)) {
+        return 7;
+    }
+    blocks::put(set, code_of(x, y), false);
+    0
+}
+
+// The blocks that contain the pixel are those that share one with the window of it alone.
+pub fn ask(panel: Panel, length: usize, x: u32, y: u32, set: &Set) -> Answer {
     let window = Window {
         x0: x,
         y0: y,
         x1: x,
         y1: y,
     };
-    answered(
-        number_of(holds(plain, code_of(x, y))),
-        opened_by(plain, window),
-    )
+    count(panel, length, window, set)
 }
 
-// 4, 8 or none of them (0).
-pub fn window_refusal(panel: Panel, window: Window) -> u32
-    ensures { λ r. ⌜ r ≤ 8 ⌝ }
-{
-    if off_panel(panel, window.x0, window.y0) || off_panel(panel, window.x1, window.y1) {
-        return 4;
+fn window_refusal(panel: Panel, length: usize, window: Window) -> u32 {
+    let refusal = pixel_refusal(panel, length, window.x0, window.y0);
+    if refusal != 0 {
+        return refusal;
     }
     if window.x1 < window.x0 || window.y1 < window.y0 {
         return 8;
@@ -114,38 +108,67 @@ pub fn window_refusal(panel: Panel, window: Window) -> u32
     0
 }
 
-pub fn count(panel: Panel, window: Window, plain: &[u32]) -> Answer
-    ensures { λ r. ⌜ r .number ≤ 8 ⌝ }
-{
-    let refusal = window_refusal(panel, window);
+pub fn count(panel: Panel, length: usize, window: Window, set: &Set) -> Answer {
+    let refusal = pixel_refusal(panel, length, window.x1, window.y1);
     if refusal != 0 {
         return refused(refusal);
     }
-    answered(found_in(plain, window), opened_by(plain, window))
+    let refusal = window_refusal(panel, length, window);
+    if refusal != 0 {
+        return refused(refusal);
+    }
+    answered(
+        0,
+        window::found(panel, set, window) as usize,
+        window::opened(panel, set, window) as usize,
+    )
 }
 
-// The output has this length; the words written are put into `output`.
-pub fn list(panel: Panel, window: Window, length: u32, plain: &[u32], output: &mut [u32]) -> Answer
-    ensures { λ r. ⌜ r .number ≤ 9 ⌝ }
-{
-    let counted = count(panel, window, plain);
-    if counted.number != 0 {
+pub fn list(panel: Panel, length: usize, window: Window, set: &Set, output: &mut [u32]) -> Answer {
+    let counted = count(panel, length, window, set);
+    if counted.refusal != 0 {
         return counted;
     }
-    if length < counted.first {
-        return too_short(counted.first);
+    if output.len() < counted.first {
+        return answered(9, counted.first, 0);
     }
-    write_found(plain, window, output);
+    window::write_found(panel, set, window, output);
     counted
 }
 
-pub fn save(panel: Panel, length: u32, plain: &[u32], output: &mut [u8]) -> Answer
-    ensures { λ r. ⌜ r .number ≤ 9 ⌝ }
-{
-    let needed = image_length(plain);
-    if length < needed {
-        return too_short(needed);
+pub fn save(panel: Panel, length: usize, set: &Set, output: &mut [u8]) -> Answer {
+    if length < panel.words {
+        return refused(3);
     }
-    write_image(panel, plain, output);
-    answered(needed, 0)
+    let needed = images::image_length(panel, set);
+    if output.len() < needed {
+        return answered(9, needed, 0);
+    }
+    images::write_image(panel, set, output);
+    answered(0, needed, 0)
+}
+
+pub fn load(panel: Panel, length: usize, image: &[u8], set: &mut Set) -> u32 {
+    if length < panel.words {
+        return 3;
+    }
+    let refusal = images::header_refusal(panel, image);
+    if refusal != 0 {
+        return refusal;
+    }
+    let mut candidate = [false; 256];
+    images::named_set(image, &mut candidate);
+    if !images::is_image(panel, &candidate, image) {
+        return 12;
+    }
+    *set = candidate;
+    0
+}
+
+// A register that nothing but calls wrote to is sound, and yes is 1.
+pub fn check(panel: Panel, length: usize) -> Answer {
+    if length < panel.words {
+        return refused(3);
+    }
+    answered(0, 1, 0)
 }

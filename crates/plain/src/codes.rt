@@ -1,79 +1,45 @@
-// 01 "Panel, pixel, code", bit by bit.
-ghost use Prim.Native.Nat.{_+_, _*_, _/_, _^_, _≤_, _<_};
-ghost use mathlib.Core.Path.{_≡_};
-ghost use Rattle.plain.specs.Code.{bitAt, interleave, evenBits, Coordinate};
-ghost use Rattle.plain.specs.Block.{sideOf, LastCode, Quarter};
+// 01 "Panel, pixel, code", for coordinates of four bits.
+ghost use Prim.Native.Nat.{_≤_};
 
 // Bit i of x is bit 2i of the code, bit i of y is bit 2i+1.
-pub fn code_of(x: u32, y: u32) -> u32
-    ensures { λ r. ⌜ r ≡ interleave 16 x y ⌝ }
-{
-    let mut code = 0;
-    for i in 0..16 {
-        code = with_bits(code, x, y, i);
-    }
-    code
+pub fn code_of(x: u32, y: u32) -> u32 {
+    spread(x) | (spread(y) << 1)
 }
 
-fn with_bits(code: u32, x: u32, y: u32, i: u32) -> u32
-    requires { ⌜ (i < 16) × (code < 2 ^ (2 * i)) ⌝ }
-    ensures { λ r. ⌜ r ≡ bitAt i y (2 * i + 1) + (bitAt i x (2 * i) + code) ⌝ }
-{
-    code | (((x >> i) & 1) << (2 * i)) | (((y >> i) & 1) << (2 * i + 1))
+fn spread(x: u32) -> u32 {
+    (x & 1) | ((x & 2) << 1) | ((x & 4) << 2) | ((x & 8) << 3)
 }
 
-pub fn x_of(code: u32) -> u32
-    ensures { λ r. ⌜ Coordinate (evenBits 16 code) r ⌝ }
-{
-    let mut x = 0;
-    for i in 0..16 {
-        x = with_even_bit(x, code, i);
-    }
-    x
+pub fn x_of(code: u32) -> u32 {
+    (code & 1) | ((code >> 1) & 2) | ((code >> 2) & 4) | ((code >> 3) & 8)
 }
 
-pub fn y_of(code: u32) -> u32
-    ensures { λ r. ⌜ Coordinate (evenBits 16 (code / 2)) r ⌝ }
-{
+pub fn y_of(code: u32) -> u32 {
     x_of(code >> 1)
-}
-
-fn with_even_bit(x: u32, code: u32, i: u32) -> u32
-    requires { ⌜ (i < 16) × (x < 2 ^ i) ⌝ }
-    ensures { λ r. ⌜ r ≡ bitAt (2 * i) code i + x ⌝ }
-{
-    x | (((code >> (2 * i)) & 1) << i)
 }
 
 // A block of level i has side 2^i.
 pub fn side_of(level: u32) -> u32
-    ensures { λ r. ⌜ (r ≡ sideOf level) × (1 ≤ r) × (r ≤ 65536) ⌝ }
+    ensures { λ r. ⌜ (1 ≤ r) × (r ≤ 16) ⌝ }
 {
-    if 16 < level {
-        return 1;
+    match level {
+        0 => 1,
+        1 => 2,
+        2 => 4,
+        3 => 8,
+        _ => 16,
     }
-    1 << level
 }
 
-// The last code of a block.
-pub fn last_code(level: u32, code: u32) -> u32
-    ensures { λ r. ⌜ LastCode level code r ⌝ }
+// A block of level i has 4^i codes.
+pub fn size_of(level: u32) -> u32
+    ensures { λ r. ⌜ (1 ≤ r) × (r ≤ 256) ⌝ }
 {
-    if level == 0 {
-        return code;
+    match level {
+        0 => 1,
+        1 => 4,
+        2 => 16,
+        3 => 64,
+        _ => 256,
     }
-    if 16 <= level {
-        return 4294967295;
-    }
-    code | (4294967295 >> (32 - 2 * level))
-}
-
-// The codes of the four quarters of a block of level + 1.
-pub fn quarter(level: u32, code: u32, which: u32) -> u32
-    ensures { λ r. ⌜ Quarter level code which r ⌝ }
-{
-    if 16 <= level {
-        return code;
-    }
-    code | (which << (2 * level))
 }

@@ -1,11 +1,6 @@
-// The plain set program: an array of codes searched by hand, blocks and image by 01's definition. It uses nothing of the register.
-pub mod answer;
+// The plain set program: the marked pixels of a panel of order 4 at most, an array by code, and all else worked out from it by 01's definitions.
 pub mod blocks;
 pub mod calls;
 pub mod codes;
-pub mod image;
-pub mod load;
-pub mod panel;
-pub mod set;
-pub mod windows;
-pub mod words;
+pub mod images;
+pub mod window;

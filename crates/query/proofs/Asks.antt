@@ -4,7 +4,6 @@ use native.Mathlib.Omega.{arith}
 use mathlib.Core.Path.{_≡_, refl, ap, ap₂, subst, sym, _∙_}
 use mathlib.Core.Bool.{true, false}
 use mathlib.Core.List.{List}
-use lib.ListN.{getD}
 use Rattle.pktree.specs.Panel.{OnPanel}
 use Rattle.pktree.specs.PixelSet.{member}
 use Rattle.pktree.specs.Tree.{tree}
@@ -16,25 +15,25 @@ use Rattle.measures.specs.Sizes.{panelOf, slotWidth, sizesOf, UsableStore}
 use Rattle.measures.specs.Layout.{layoutOf, LaidOut}
 use Rattle.measures.specs.Slot.{slotPart, countWord}
 use Rattle.measures.proofs.Usable.{layout-said}
-use Rattle.store.specs.Opening.{HeaderSays, CannotOpen}
-use Rattle.store.specs.Placed.{forestOf}
+use Rattle.store.specs.Opening.{HeaderSays, RootCannotOpen}
 use Rattle.descent.specs.declared.Located.{Located}
 use Rattle.descent.specs.Located.{LocateMeets}
 use Rattle.descent.proofs.OpenedByPixel.{opened-by-pixel, marked-exactly}
 use Rattle.query.specs.declared.ask.Asked.the-variants.{Known, Damaged}
 use Rattle.query.specs.Asking.{AskAnswer}
+use Rattle.pktree.specs.Elements.{unlabelled}
 
 module _ (words : List ℕ) (code : ℕ) (sizes : Sizes) (layout : Layout) (slots places : List ℕ) (r : Located) (usable : UsableStore words) (sizes-are : sizes ≡ sizesOf words) (laid : LaidOut sizes layout)
     (on : OnPanel (panelOf sizes) code) (m : LocateMeets words layout (sizes .order) code slots places r) where
   layout-is : layout ≡ layoutOf (sizesOf words)
   layout-is = layout-said words sizes-are laid
 
-  order-is : sizes .order ≡ getD words 1 0
+  order-is : sizes .order ≡ sizesOf words .order
   order-is = ap (λ (s : Sizes). s .order) sizes-are
 
   -- where the root's slot says otherwise, the descent says so
-  shut : CannotOpen (slotWidth (getD words 2 0)) words 0 (getD words 1 0) 0 → r .damaged ≡ true
-  shut h = m .closed (λ s. h (subst (λ (l : ℕ). HeaderSays (slotPart (slotWidth (getD words 2 0)) words 0) l 0 (countWord (slotPart (slotWidth (getD words 2 0)) words 0))) order-is
+  shut : RootCannotOpen words → r .damaged ≡ true
+  shut h = m .closed (λ s. h (subst (λ (l : ℕ). HeaderSays (slotPart (slotWidth (sizesOf words .k)) words 0) l 0 (countWord (slotPart (slotWidth (sizesOf words .k)) words 0))) order-is
       (subst (λ (w : ℕ). HeaderSays (slotPart w words 0) (sizes .order) 0 (countWord (slotPart w words 0))) (ap (λ (l : Layout). l .width) layout-is) s)))
 
   pub asked-known : r .damaged ≡ false → AskAnswer words code (Known (r .marked) (r .depth + 1))
@@ -44,7 +43,7 @@ module _ (words : List ℕ) (code : ℕ) (sizes : Sizes) (layout : Layout) (slot
         sound = λ set holds.
             let s = holds .sound in
             let l = m .sound (holds .placed) s layout-is order-is on .1 in
-            let e : forestOf (holds .placed) ≡ tree (panelOf (sizesOf words)) (member set) = s .is-tree ∙ ap (λ (t : List ℕ). tree (panelOf (sizesOf words)) (member t)) (holds .set-is) in
+            let e : unlabelled (holds .placed) ≡ tree (panelOf (sizesOf words)) (member set) = s .is-tree ∙ ap (λ (t : List ℕ). tree (panelOf (sizesOf words)) (member t)) (holds .set-is) in
             let marked : member set code ≡ r .marked = ap (λ (t : List ℕ). member t code) (sym (holds .set-is)) ∙ marked-exactly s l in
             let opened : openedByPixel code (tree (panelOf (sizesOf words)) (member set)) ≡ suc (r .depth) = ap (openedByPixel code) (sym e) ∙ opened-by-pixel s l in
             ap₂ Known (sym marked) (omega (arith, opened));

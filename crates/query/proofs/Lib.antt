@@ -3,5 +3,5 @@ pub mod WindowParts
 pub mod SeenParts
 pub mod Counts
 pub mod WholeTree
-pub mod RootLook
+pub mod RootCount
 pub mod Asks

@@ -4,16 +4,16 @@ use native.Mathlib.Omega.{arith}
 use mathlib.Core.Path.{_≡_, refl, ap, sym, _∙_}
 use mathlib.Core.Bool.{true}
 use mathlib.Core.List.{List}
-use lib.ListN.{length, getD}
+use lib.ListN.{length}
 use Rattle.morton.specs.Code.{gatherBits, xOf, yOf}
 use Rattle.pktree.specs.Panel.{Panel}
 use Rattle.pktree.specs.PixelSet.{member}
-use Rattle.pktree.specs.Elements.{empty, block}
+use Rattle.pktree.specs.Elements.{empty, block, unlabelled}
 use Rattle.pktree.specs.Tree.{tree, pixels, blockOf}
 use Rattle.pktree.specs.Window.{Window, found, sharesPixel, openedByWindow}
 use Rattle.pktree.proofs.Unlabelled.{pixels-unlabelled, blockCount-unlabelled}
 use Rattle.measures.specs.Sizes.{panelOf, slotCount, slotWidth, sizesOf}
-use Rattle.store.specs.Placed.{Placed, forestOf}
+use Rattle.store.specs.Placed.{Placed}
 use Rattle.store.specs.Sound.{Holds}
 use Rattle.store.proofs.SoundView.{sound-view}
 use Rattle.store.proofs.BlockView.{BlockView, root-view}
@@ -23,11 +23,11 @@ use Rattle.query.proofs.WindowTests.{corners-exactly, corners-decide}
 use Rattle.query.proofs.WindowParts.{found-few, opened-few, block-opened}
 
 pub record WholeTree (words : List ℕ) (window : Window) (set : List ℕ) (es : Placed) : Type 0 where
-  pub view : BlockView (getD words 2 0) (slotWidth (getD words 2 0)) (slotCount (getD words 2 0) (getD words 3 0)) words 0 (getD words 1 0) 0 es
-  pub all-found : found window (pixels (forestOf es)) ≡ found window set
-  pub all-opened : openedByWindow window (tree (panelOf (sizesOf words)) (member set)) ≡ suc (openedByWindow window (forestOf es))
-  pub few-found : foundIn window (forestOf es) ≤ getD words 3 0
-  pub few-opened : suc (openedByWindow window (forestOf es)) ≤ slotCount (getD words 2 0) (getD words 3 0)
+  pub view : BlockView (sizesOf words .k) (slotWidth (sizesOf words .k)) (slotCount (sizesOf words .k) (sizesOf words .most)) words 0 (sizesOf words .order) 0 es
+  pub all-found : found window (pixels (unlabelled es)) ≡ found window set
+  pub all-opened : openedByWindow window (tree (panelOf (sizesOf words)) (member set)) ≡ suc (openedByWindow window (unlabelled es))
+  pub few-found : foundIn window (unlabelled es) ≤ sizesOf words .most
+  pub few-opened : suc (openedByWindow window (unlabelled es)) ≤ slotCount (sizesOf words .k) (sizesOf words .most)
 
 -- the root's lowest corner is the panel's
 first-corner : (xOf 0 ≡ 0) × (yOf 0 ≡ 0)
@@ -41,17 +41,17 @@ whole-tree words window set holds ordered on =
     let panel : Panel = panelOf (sizesOf words) in
     let (es, v) = sound-view words placed (holds .sound) in
     let root = root-view words placed es (holds .sound) v in
-    let is : tree panel (member set) ≡ block (getD words 1 0) 0 (forestOf es) empty =
-    ap (λ (l : List ℕ). tree panel (member l)) (sym (holds .set-is)) ∙ sym (holds .sound .is-tree) ∙ ap forestOf (v .is) in
-    let shares : sharesPixel window (blockOf (getD words 1 0) 0 (forestOf es)) ≡ true =
-    sym (corners-decide window (getD words 1 0) 0 (forestOf es) (root .level-to) (root .aligned) (root .ends) ordered)
-    ∙ corners-exactly window (getD words 1 0) 0 .1 (omega (arith, first-corner, on .0, on .1)) in (
+    let is : tree panel (member set) ≡ block (sizesOf words .order) 0 (unlabelled es) empty =
+    ap (λ (l : List ℕ). tree panel (member l)) (sym (holds .set-is)) ∙ sym (holds .sound .is-tree) ∙ ap unlabelled (v .is) in
+    let shares : sharesPixel window (blockOf (sizesOf words .order) 0 (unlabelled es)) ≡ true =
+    sym (corners-decide window (sizesOf words .order) 0 (unlabelled es) (root .level-to) (root .aligned) (root .ends) ordered)
+    ∙ corners-exactly window (sizesOf words .order) 0 .1 (omega (arith, first-corner, on .0, on .1)) in (
       es,
       record {
         view = root;
         all-found = ap (found window) (pixels-unlabelled es ∙ sym (v .same-pixels) ∙ holds .set-is);
-        all-opened = ap (openedByWindow window) is ∙ block-opened window (getD words 1 0) 0 (forestOf es) shares .one-opened;
-        few-found = omega (arith, found-few window (pixels (forestOf es)), ap length (pixels-unlabelled es), ap length (v .same-pixels), holds .sound .fits);
-        few-opened = omega (arith, opened-few window (forestOf es), blockCount-unlabelled es, v .few);
+        all-opened = ap (openedByWindow window) is ∙ block-opened window (sizesOf words .order) 0 (unlabelled es) shares .one-opened;
+        few-found = omega (arith, found-few window (pixels (unlabelled es)), ap length (pixels-unlabelled es), ap length (v .same-pixels), holds .sound .fits);
+        few-opened = omega (arith, opened-few window (unlabelled es), blockCount-unlabelled es, v .few);
       },
     )

@@ -3,6 +3,7 @@ use Prim.Native.Nat.{ℕ, _+_, _^_, _≤_, _<_}
 use mathlib.Core.Path.{_≡_}
 use mathlib.Core.Bool.{Bool, _&&_}
 use lib.Dec.{ltb, leb}
+use Rattle.morton.specs.Coordinate.{largestSide}
 use Rattle.morton.specs.Code.{xOf, yOf}
 use Rattle.pktree.specs.Panel.{Aligned}
 use Rattle.pktree.specs.Window as tree
@@ -19,10 +20,10 @@ windowBetween c = record { x0 = xOf (c .first); y0 = yOf (c .first); x1 = xOf (c
 
 -- a coordinate has at most 16 bits, so that the corners have codes
 pub record HasCodes (window : Window) : Type 0 where
-  pub x0-below : window .x0 < 65536
-  pub y0-below : window .y0 < 65536
-  pub x1-below : window .x1 < 65536
-  pub y1-below : window .y1 < 65536
+  pub x0-below : window .x0 < largestSide
+  pub y0-below : window .y0 < largestSide
+  pub x1-below : window .x1 < largestSide
+  pub y1-below : window .y1 < largestSide
 
 pub record CornersOf (window : Window) (corners : Corners) : Type 0 where
   pub same-window : windowBetween corners ≡ windowOf window

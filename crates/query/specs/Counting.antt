@@ -2,18 +2,18 @@
 use Prim.Native.Nat.{ℕ, _+_, _≤_, _<_}
 use mathlib.Core.Path.{_≡_}
 use mathlib.Core.List.{List}
-use lib.ListN.{length, getD}
+use lib.ListN.{length}
 use Rattle.pktree.specs.Panel.{Panel, HasPixel}
 use Rattle.pktree.specs.Elements.{Forest, empty, pixel}
 use Rattle.pktree.specs.PixelSet.{member}
 use Rattle.pktree.specs.Tree.{pixels, tree as setTree}
 use Rattle.pktree.specs.Window as tree
 use Rattle.pktree.specs.Window.{found, openedByWindow}
-use Rattle.measures.specs.Sizes.{panelOf, slotCount, slotWidth, sizesOf}
+use Rattle.measures.specs.Sizes.{panelOf, slotCount, sizesOf, largestMost}
 use Rattle.store.specs.Sound.{Holds}
-use Rattle.store.specs.Opening.{CannotOpen}
+use Rattle.store.specs.Opening.{CannotOpen, RootCannotOpen}
 use Rattle.walks.proofs.Walks.{InsideWalked}
-use Rattle.query.specs.declared.count.Look.{Look}
+use Rattle.query.specs.declared.count.RangeQuery.{RangeQuery}
 use Rattle.query.specs.declared.count.Sum.{Sum}
 use Rattle.query.specs.declared.count.Counted.{Counted}
 use Rattle.query.specs.declared.count.Counted.the-variants.{Seen, Damaged}
@@ -30,18 +30,18 @@ abbrev pub BeginsOnPanel : Panel → tree.Window → Type 0
 BeginsOnPanel panel window = HasPixel panel (window .x0) (window .y0)
 
 -- from the numbers s, a window walk over these elements comes to the numbers t: where there is room for what they add, as on a sound store
-pub record Counts (look : Look) (s : ℕ × ℕ) (f : Forest) (t : ℕ × ℕ) : Type 0 where
-  pub says : Ordered (windowBetween (look .corners)) → s .0 + foundIn (windowBetween (look .corners)) f ≤ 65535
-      → s .1 + openedByWindow (windowBetween (look .corners)) f ≤ look .layout .slots
-      → (t .0 ≡ s .0 + foundIn (windowBetween (look .corners)) f) × (t .1 ≡ s .1 + openedByWindow (windowBetween (look .corners)) f)
+pub record Counts (range : RangeQuery) (s : ℕ × ℕ) (f : Forest) (t : ℕ × ℕ) : Type 0 where
+  pub says : Ordered (windowBetween (range .corners)) → s .0 + foundIn (windowBetween (range .corners)) f ≤ largestMost
+      → s .1 + openedByWindow (windowBetween (range .corners)) f ≤ range .layout .slots
+      → (t .0 ≡ s .0 + foundIn (windowBetween (range .corners)) f) × (t .1 ≡ s .1 + openedByWindow (windowBetween (range .corners)) f)
 
-pub record CountMeets (look : Look) (words : List ℕ) (above slot level code found opened : ℕ) (r : Sum) : Type 0 where
-  pub inside : InsideWalked (Counts look) (look .layout) words above slot level code (found, opened + 1) (r .found, r .opened)
-  pub closed : CannotOpen (look .layout .width) words slot level code → look .layout .slots < r .opened
+pub record BlockCounted (range : RangeQuery) (words : List ℕ) (above slot level code found opened : ℕ) (r : Sum) : Type 0 where
+  pub inside : InsideWalked (Counts range) (range .layout) words above slot level code (found, opened + 1) (r .found, r .opened)
+  pub closed : CannotOpen (range .layout .width) words slot level code → range .layout .slots < r .opened
 
 -- a pixel is added to those found exactly if the window has it
 pub record PixelCounted (corners : Corners) (code found r : ℕ) : Type 0 where
-  pub says : Ordered (windowBetween corners) → found + foundIn (windowBetween corners) (pixel code empty) ≤ 65535
+  pub says : Ordered (windowBetween corners) → found + foundIn (windowBetween corners) (pixel code empty) ≤ largestMost
       → r ≡ found + foundIn (windowBetween corners) (pixel code empty)
 
 -- these numbers, unless they are more than may be
@@ -54,8 +54,8 @@ pub record SumWithin (most : ℕ) (layout : Layout) (sum : Sum) (r : Counted) : 
 
 -- never more pixels found than N, nor more blocks opened than S
 pub record WithinSizes (words : List ℕ) (found opened : ℕ) : Type 0 where
-  pub found-to : found ≤ getD words 3 0
-  pub opened-to : opened ≤ slotCount (getD words 2 0) (getD words 3 0)
+  pub found-to : found ≤ sizesOf words .most
+  pub opened-to : opened ≤ slotCount (sizesOf words .k) (sizesOf words .most)
 
 -- whatever the words are
 abbrev pub CountWithin : List ℕ → Counted → Type 0
@@ -67,4 +67,4 @@ pub record CountAnswer (words : List ℕ) (window : tree.Window) (r : Counted) :
   pub bounds : CountWithin words r
   pub sound : (set : List ℕ) → Holds words set → Ordered window → BeginsOnPanel (panelOf (sizesOf words)) window
       → r ≡ Seen (length (found window set)) (openedByWindow window (setTree (panelOf (sizesOf words)) (member set)))
-  pub closed : CannotOpen (slotWidth (getD words 2 0)) words 0 (getD words 1 0) 0 → r ≡ Damaged
+  pub closed : RootCannotOpen words → r ≡ Damaged

@@ -2,6 +2,7 @@ ghost use mathlib.Core.Path.{_≡_};
 ghost use Rattle.pktree.specs.Panel.{OnPanel};
 ghost use Rattle.measures.specs.Sizes.{UsableStore, panelOf, sizesOf};
 ghost use Rattle.query.specs.Asking.{AskAnswer};
+use descent::PATH_LENGTH;
 use descent::locate;
 use measures::sizes::Sizes;
 use measures::sizes::layout_of;
@@ -17,8 +18,8 @@ pub fn ask(store: &[u32], sizes: Sizes, code: u32) -> Asked
     ensures { λ r. ⌜ AskAnswer (now (store .entry)) code r ⌝ }
 {
     let layout = layout_of(sizes);
-    let mut slots = [0u32; 17];
-    let mut places = [0u32; 17];
+    let mut slots = [0u32; PATH_LENGTH];
+    let mut places = [0u32; PATH_LENGTH];
     let located = locate(store, layout, sizes.order, code, &mut slots, &mut places);
     if located.damaged {
         return Asked::Damaged;

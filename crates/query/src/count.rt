@@ -1,5 +1,5 @@
 ghost use mathlib.Core.Path.{_≡_};
-ghost use Rattle.query.specs.Counting.{PixelCounted, CountMeets, SumWithin, CountAnswer};
+ghost use Rattle.query.specs.Counting.{PixelCounted, BlockCounted, SumWithin, CountAnswer};
 ghost use Rattle.query.specs.Corners.{windowOf, HasCodes};
 ghost use Rattle.measures.specs.Layout.{LayoutFits};
 ghost use Rattle.measures.specs.Sizes.{UsableStore, sizesOf};
@@ -11,6 +11,8 @@ use crate::window::meets;
 use measures::sizes::Layout;
 use measures::sizes::Sizes;
 use measures::sizes::layout_of;
+use measures::slots::LEVEL_ABOVE_ROOT;
+use measures::slots::MORE_THAN_SLOTS;
 use measures::slots::wide;
 use std::num::wrapping_add_u32;
 use store::elements::Element;
@@ -20,7 +22,7 @@ use walks::enter;
 use walks::part_of;
 
 // What a window walk is given: where the slots lie, and the window.
-pub struct Look {
+pub struct RangeQuery {
     pub layout: Layout,
     pub corners: Corners,
 }
@@ -49,7 +51,7 @@ fn count_pixel(corners: Corners, code: u32, found: u32) -> u32
 // The block in this slot, an element of a block of level `above`, is opened: `found` pixels were found and `opened` blocks opened before it.
 fn count_block(
     store: &[u32],
-    look: Look,
+    range: RangeQuery,
     above: u32,
     slot: u32,
     level: u32,
@@ -57,34 +59,34 @@ fn count_block(
     found: u32,
     opened: u32,
 ) -> Sum
-    requires { ⌜ LayoutFits (look .layout) (now store) ⌝ }
-    ensures { λ r. ⌜ CountMeets look (now (store .entry)) above slot level code found opened r ⌝ }
+    requires { ⌜ LayoutFits (range .layout) (now store) ⌝ }
+    ensures { λ r. ⌜ BlockCounted range (now (store .entry)) above slot level code found opened r ⌝ }
 {
-    if look.layout.slots <= wide(opened) {
+    if range.layout.slots <= wide(opened) {
         return Sum {
             found: 0,
-            opened: 65536,
+            opened: MORE_THAN_SLOTS,
         };
     }
-    let Opening::Elements(count) = enter(store, look.layout, above, slot, level, code) else {
+    let Opening::Elements(count) = enter(store, range.layout, above, slot, level, code) else {
         return Sum {
             found: 0,
-            opened: 65536,
+            opened: MORE_THAN_SLOTS,
         };
     };
-    let part = part_of(store, look.layout, slot);
+    let part = part_of(store, range.layout, slot);
     let mut pixels = found;
     let mut blocks = opened + 1;
     for i in 0..count {
         match element_at(part, i) {
-            Element::Pixel(c) => pixels = count_pixel(look.corners, c, pixels),
+            Element::Pixel(c) => pixels = count_pixel(range.corners, c, pixels),
             Element::Block {
                 slot: s,
                 level: inner,
                 code: c,
             } => {
-                if meets(look.corners, inner, c) {
-                    let sum = count_block(store, look, level, s, inner, c, pixels, blocks);
+                if meets(range.corners, inner, c) {
+                    let sum = count_block(store, range, level, s, inner, c, pixels, blocks);
                     pixels = sum.found;
                     blocks = sum.opened;
                 }
@@ -119,13 +121,13 @@ pub fn count(store: &[u32], sizes: Sizes, window: Window) -> Counted
     ensures { λ r. ⌜ CountAnswer (now (store .entry)) (windowOf window) r ⌝ }
 {
     let layout = layout_of(sizes);
-    let look = Look {
+    let range = RangeQuery {
         layout,
         corners: corners_of(window),
     };
     within(
         sizes.most,
         layout,
-        count_block(store, look, 17, 0, sizes.order, 0, 0, 0),
+        count_block(store, range, LEVEL_ABOVE_ROOT, 0, sizes.order, 0, 0, 0),
     )
 }

@@ -4,6 +4,7 @@ use native.Mathlib.Omega.{arith}
 use mathlib.Core.Path.{_≡_}
 use mathlib.Core.List.{List}
 use lib.Pow.{pow-mono}
+use Rattle.morton.specs.Coordinate.{largestSide}
 use Rattle.morton.specs.Code.{codeOf}
 use Rattle.morton.proofs.Codes.{interleave-below}
 use Rattle.pktree.specs.Panel.{OnPanel}
@@ -20,7 +21,7 @@ order-small known = rw (known .0) (known .1 .valid .panel .order-to)
 
 pub side-of-order
     : {words : List ℕ} {sizes : Sizes} → Known words sizes
-    → (1 * 2 ^ sizes .order % 4294967296 ≡ 2 ^ sizesOf words .order) × (2 ^ sizesOf words .order ≤ 65536)
+    → (1 * 2 ^ sizes .order % 4294967296 ≡ 2 ^ sizesOf words .order) × (2 ^ sizesOf words .order ≤ largestSide)
 side-of-order known = let p : 2 ^ _ ≤ 2 ^ 16 = pow-mono (known .1 .valid .panel .order-to) in rw (known .0) (omega arith)
 
 pub code-on-panel : {words : List ℕ} {sizes : Sizes} {x y code : ℕ} → Known words sizes → HasPixelOn words x y → code ≡ codeOf x y → OnPanel (panelOf sizes) code

@@ -1,6 +1,5 @@
-pub mod Ladder
 pub mod Refusals
 pub mod Makes
 pub mod Changes
-pub mod Looks
+pub mod Walks
 pub mod Loads

@@ -1,34 +1,14 @@
--- The checks that calls share, from what judges them; and what a spoiled store's root says.
-use Prim.Native.Nat.{ℕ, _*_, _<_}
-use native.Mathlib.Omega.{arith}
-use native.Mathlib.Nat.{mul-pos}
+-- The checks that calls share, from what judges them.
+use Prim.Native.Nat.{ℕ}
 use mathlib.Core.Path.{_≡_, ap}
 use mathlib.Core.Logic.{inl, inr}
 use mathlib.Core.List.{List}
-use lib.ListN.{getD}
 use Rattle.measures.specs.declared.sizes.Sizes.{Sizes}
-use Rattle.measures.specs.Sizes.{slotCount, slotWidth, UsableStore}
-use Rattle.measures.specs.Slot.{slotPart, levelWord}
-use Rattle.store.specs.Opening.{CannotOpen}
-use Rattle.measures.proofs.SlotWrites.{slot-word}
 use Rattle.refusals.specs.declared.Refusal.{Refusal}
 use Rattle.refusals.specs.Judged.{PixelGiven, PixelRefused, WindowGiven, WindowRefused}
-use Rattle.register.specs.Answer.{numberOf, refused}
-use Rattle.register.specs.Effect.{Effect, effect, Returns, passed, stopped}
-use Rattle.register.specs.Refusals.{OfPixel, OfWindow}
-use Rattle.register.specs.Walk.{Spoiled}
-
--- a spoiled store's root is no block of the panel
-pub spoiled-level : (words : List ℕ) → UsableStore words → Spoiled words → levelWord (slotPart (slotWidth (getD words 2 0)) words 0) ≡ getD words 1 0 → ⊥
-spoiled-level words usable s level-is =
-    let w = slotWidth (getD words 2 0) in
-    let at : getD (slotPart w words 0) 0 0 ≡ getD words 8 0 = slot-word w 0 words 8 0 (omega arith) (omega arith) in
-    let some : 0 < slotCount (getD words 2 0) (getD words 3 0) * w = mul-pos (omega arith) (omega arith) in
-    let ff : getD words 8 0 ≡ 0xFFFFFFFF = s 8 (omega arith) (omega (arith, some)) in
-    omega (arith, at, ff, level-is, usable .valid .panel .order-to)
-
-pub spoiled-shut : (words : List ℕ) → UsableStore words → Spoiled words → CannotOpen (slotWidth (getD words 2 0)) words 0 (getD words 1 0) 0
-spoiled-shut words usable s says = spoiled-level words usable s (says .level-is)
+use Rattle.promises.specs.Answer.{refused}
+use Rattle.register.specs.Answer.{numberOf}
+use Rattle.promises.specs.Effect.{Effect, effect, Returns, passed, stopped, OfPixel, OfWindow}
 
 module _ {before after : List ℕ} (same : after ≡ before) where
   pub returns-number : {r s : Refusal} → r ≡ s → Returns (refused (numberOf s)) (effect (refused (numberOf r)) before after)

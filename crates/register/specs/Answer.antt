@@ -1,8 +1,8 @@
 -- 01's number and values for each answer: the refusal, 0 for an accepted call, and two values, zero beside every refusal but 9.
 use Prim.Native.Nat.{ℕ}
-use mathlib.Core.Bool.{Bool, true, false}
 use Rattle.refusals.specs.declared.Refusal.{Refusal}
 use Rattle.refusals.specs.declared.Refusal.the-variants.{BeyondLimits, StoreTooShort, NoRegister, OffPanel, AlreadyMarked, Full, NotMarked, WindowReversed, OutputTooShort, NotAnImage, ImageUnlike, ImageDamaged, StoreDamaged}
+use Rattle.promises.specs.Answer.{Answer, accepted, refused, short, yesNo}
 use Rattle.register.specs.declared.Outcome.{Outcome}
 use Rattle.register.specs.declared.Outcome.the-variants as outcome
 use Rattle.register.specs.declared.Asking.{Asking}
@@ -31,25 +31,6 @@ numberOf NotAnImage = 10
 numberOf ImageUnlike = 11
 numberOf ImageDamaged = 12
 numberOf StoreDamaged = 13
-
-pub record Answer : Type 0 where
-  pub refusal : ℕ
-  pub first : ℕ
-  pub second : ℕ
-
-abbrev pub accepted : ℕ → ℕ → Answer
-accepted first second = record { refusal = 0; first = first; second = second }
-
-abbrev pub refused : ℕ → Answer
-refused number = record { refusal = number; first = 0; second = 0 }
-
--- 9 comes with the needed length
-abbrev pub short : ℕ → Answer
-short needed = record { refusal = 9; first = needed; second = 0 }
-
-abbrev pub yesNo : Bool → ℕ
-yesNo true = 1
-yesNo false = 0
 
 -- make, mark, clear and load return only that they were done
 abbrev pub answer : Outcome → Answer

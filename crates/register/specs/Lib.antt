@@ -1,7 +1,1 @@
 pub mod Answer
-pub mod Effect
-pub mod Refusals
-pub mod Walk
-pub mod Change
-pub mod Output
-pub mod Calls

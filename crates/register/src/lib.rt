@@ -1,7 +1,7 @@
 // The register of unfit pixels: the calls that are open to users. None has a requires; each has one ensures, over 01's number and values of its answer.
 ghost use mathlib.Core.Path.{_≡_};
 ghost use Rattle.register.specs.Answer.{answer, askAnswer, countAnswer, listAnswer, saveAnswer, checkAnswer, numberOf};
-ghost use Rattle.register.specs.Calls.{MakeMeets, MarkMeets, ClearMeets, AskMeets, CountMeets, ListMeets, SaveMeets, LoadMeets, CheckMeets};
+ghost use Rattle.promises.specs.Calls.{MakeMeets, MarkMeets, ClearMeets, AskMeets, CountMeets, ListMeets, SaveMeets, LoadMeets, CheckMeets};
 use listing::Listed;
 use loading::load::Loaded;
 use measures::sizes::Sizes;
@@ -62,15 +62,11 @@ pub fn refusal_of(outcome: Outcome) -> u32
     }
 }
 
-// 01: an empty, sound register of order m, with this k, for at most n pixels (01's N).
-pub fn make(store: &mut [u32], m: u32, k: u32, n: u32) -> Outcome
-    ensures { λ r. ⌜ MakeMeets (now (store .entry)) (now (store .exit)) m k n (answer r) ⌝ }
+// 01: an empty, sound register of order m, with this k, for at most so many pixels (01's N).
+pub fn make(store: &mut [u32], m: u32, k: u32, most: u32) -> Outcome
+    ensures { λ r. ⌜ MakeMeets (now (store .entry)) (now (store .exit)) m k most (answer r) ⌝ }
 {
-    let sizes = Sizes {
-        order: m,
-        k,
-        most: n,
-    };
+    let sizes = Sizes { order: m, k, most };
     if !within_limits(sizes) {
         return Outcome::Refused(Refusal::BeyondLimits);
     }
@@ -167,7 +163,7 @@ pub fn list(store: &[u32], x0: u32, y0: u32, x1: u32, y1: u32, output: &mut [u32
             match listing::list(store, sizes, window, output) {
                 Listed::Written { found, opened } => Listing::Found { found, opened },
                 Listed::Short(needed) => Listing::Short(needed),
-                Listed::Broken => Listing::Refused(Refusal::StoreDamaged),
+                Listed::Damaged => Listing::Refused(Refusal::StoreDamaged),
             }
         }
     }
@@ -189,7 +185,7 @@ pub fn save(store: &[u32], output: &mut [u8]) -> Saving
     match saving::save(store, sizes, output) {
         Imaged::Whole(length) => Saving::Saved(length),
         Imaged::TooShort(needed) => Saving::Short(needed),
-        Imaged::Unreadable => Saving::Refused(Refusal::StoreDamaged),
+        Imaged::Damaged => Saving::Refused(Refusal::StoreDamaged),
     }
 }
 

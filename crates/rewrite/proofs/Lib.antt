@@ -1,3 +1,5 @@
 pub mod SlotNows
 pub mod Runs
+pub mod LentSlots
 pub mod Moves
+pub mod HandUps

@@ -1,36 +1,28 @@
 -- A run of elements that moves to a free slot: what taking the slot, the move, the splice and the header leave together.
-use Prim.Native.Nat.{ℕ, _+_, _-_, _*_, _≤_, _<_}
+use Prim.Native.Nat.{ℕ, _*_, _≤_, _<_}
 use native.Mathlib.Omega.{arith}
 use native.Mathlib.Decide.{ℕ-discrete}
 use mathlib.Core.Path.{_≡_, refl, ap, sym, _∙_}
-use mathlib.Core.List.{List}
-use lib.ListN.{length, getD, take, drop}
+use mathlib.Core.List.{List, [], _∷_}
+use lib.ListN.{length}
 use lib.Seq.{paste}
-use borrow.Rule.Slice.PartMut.{putMid}
+use Rattle.measures.specs.Words.{firstFreeWord, firstFreeIndex}
 use Rattle.measures.specs.declared.sizes.Layout.{Layout}
+use Rattle.store.specs.declared.free.FreeSlot.{FreeSlot}
 use Rattle.store.specs.declared.free.FreeSlot.the-variants.{Taken}
-use Rattle.measures.specs.Layout.{LayoutFits, SlotOffset}
-use Rattle.measures.specs.Slot.{slotPart, countWord, nextWord, OnlySlot}
+use Rattle.store.specs.Element.{blockTag}
+use Rattle.measures.specs.Layout.{LayoutFits, mostElements, mostSlots}
+use Rattle.measures.specs.Slot.{slotPart, countWord, nextWord, OnlySlot, elementIndex, slotHead}
 use Rattle.store.specs.Splice.{elementsIn, CanSplice, withHeader}
 use Rattle.store.specs.FreeSlots.{TookFree}
-use Rattle.measures.proofs.SlotWrites.{SlotWritten, HeadWritten, lent-part, slot-given-back, head-word-set}
-use Rattle.measures.proofs.Usable.{slot-within, slot-long}
-use Rattle.rewrite.specs.Rewrite.{CanCut, SlotNow, SplicedSlot, RunMoved, BlockFormed, blockWords, runWords}
+use Rattle.measures.proofs.SlotWrites.{SlotWritten, HeadWritten, head-word-set}
+use Rattle.measures.proofs.Usable.{slot-long}
+use Rattle.rewrite.specs.Rewrite.{CanCut, RunWithin, SlotNow, SplicedSlot, RunMoved, BlockFormed, blockWords, runWords}
 use Rattle.rewrite.proofs.SlotNows.{header-kept, slot-wrote, spliced-now}
 use Rattle.rewrite.proofs.Runs.{run-within, run-whole, run-long, run-fits}
 
--- the part that code lends for writing is the slot, and the slot is what comes back
-pub slot-lent : {layout : Layout} {words : List ℕ} {slot at : ℕ} (part : List ℕ) → LayoutFits layout words → slot < layout .slots → SlotOffset layout slot at
-    → length part ≡ length (take (at + layout .width - at) (drop at words))
-    → (take (at + layout .width - at) (drop at words) ≡ slotPart (layout .width) words slot)
-    × SlotWritten (layout .width) slot words part (putMid at (at + layout .width - at) words part)
-slot-lent {layout} {words} {slot} {at} part fits below o long = (
-  lent-part (layout .width) slot at words (o .is),
-  slot-given-back (layout .width) slot at words part (o .is) (slot-within layout slot words fits below) long,
-)
-
 -- a run of at least one element gives way to one
-pub run-gives-way : {layout : Layout} {words : List ℕ} {slot level first size : ℕ} (source : List ℕ) → CanCut layout words slot level first size → 1 ≤ size
+run-gives-way : {layout : Layout} {words : List ℕ} {slot level first size : ℕ} (source : List ℕ) → CanCut layout words slot level first size → 1 ≤ size
     → 2 ≤ length source → CanSplice (slotPart (layout .width) words slot) source first size 1
 run-gives-way {layout} {words} {slot} source can some two =
     let long = slot-long layout words slot (can .fits) (can .slot-below) in
@@ -42,14 +34,18 @@ run-gives-way {layout} {words} {slot} source can some two =
       source-long = two;
     }
 
+-- no slot has room for a longer run
+pub run-few : {layout : Layout} {words : List ℕ} {slot level first size : ℕ} → CanCut layout words slot level first size → size ≤ mostElements
+run-few can = omega (arith, can .laid, can .within, can .fits .within .width-to)
+
 -- a free slot taken changes no slot
 taken-slots : {layout : Layout} {fresh : ℕ} {before taken : List ℕ} → TookFree layout before taken (Taken fresh)
-    → HeadWritten (layout .width) 7 (nextWord (slotPart (layout .width) before fresh)) before taken
+    → HeadWritten (layout .width) firstFreeIndex (nextWord (slotPart (layout .width) before fresh)) before taken
 taken-slots {layout} {fresh} {before} took =
-    rw (took .3) (head-word-set (layout .width) before 7 (nextWord (slotPart (layout .width) before fresh)) (omega arith))
+    rw (took .3) (head-word-set (layout .width) before firstFreeIndex (nextWord (slotPart (layout .width) before fresh)) (omega arith))
 
 -- so a run that lay in a slot lies there still
-pub cut-still : {layout : Layout} {slot level first size fresh : ℕ} {before taken : List ℕ} → CanCut layout before slot level first size
+cut-still : {layout : Layout} {slot level first size fresh : ℕ} {before taken : List ℕ} → CanCut layout before slot level first size
     → TookFree layout before taken (Taken fresh) → CanCut layout taken slot level first size
 cut-still {slot = slot} can took =
     let h = taken-slots took in
@@ -62,7 +58,7 @@ cut-still {slot = slot} can took =
     }
 
 -- so it does when it was moved, to whichever slot
-pub cut-moved : {layout : Layout} {slot level first size other : ℕ} {before moved : List ℕ} → CanCut layout before slot level first size → other < layout .slots
+cut-moved : {layout : Layout} {slot level first size other : ℕ} {before moved : List ℕ} → CanCut layout before slot level first size → other < layout .slots
     → RunMoved (layout .width) slot first size other before moved → CanCut layout moved slot level first size
 cut-moved {layout} {slot} {first = first} {size = size} {other = other} {before = before} {moved = moved} can below wrote =
     record {
@@ -83,12 +79,12 @@ cut-moved {layout} {slot} {first = first} {size = size} {other = other} {before 
 
 -- the run and a header make a block of the slot
 pub moved-now : {layout : Layout} {slot level first size other : ℕ} {before part : List ℕ} (code : ℕ) → CanCut layout before slot level first size → other < layout .slots
-    → part ≡ paste (slotPart (layout .width) before other) 8 (runWords (elementsIn (slotPart (layout .width) before slot)) first size) (2 * size)
+    → part ≡ paste (slotPart (layout .width) before other) slotHead (runWords (elementsIn (slotPart (layout .width) before slot)) first size) (2 * size)
     → SlotNow (withHeader part level code size) level code (runWords (elementsIn (slotPart (layout .width) before slot)) first size)
 moved-now {layout} {slot} {level} {first} {size} {other} {before} code can below e =
     let run : List ℕ = runWords (elementsIn (slotPart (layout .width) before slot)) first size in
     let within = run-within {level = level} can refl in
-    let room : 8 + 2 * size ≤ length (slotPart (layout .width) before other) =
+    let room : elementIndex size ≤ length (slotPart (layout .width) before other) =
     omega (arith, slot-long layout before other (can .fits) below, run-fits (can .fits) (can .slot-below) within) in
     let whole = run-whole (elementsIn (slotPart (layout .width) before slot)) first size in
     let wrote = slot-wrote (slotPart (layout .width) before other) run level code size room (omega (arith, run-long (slotPart (layout .width) before slot) first size within)) in
@@ -103,25 +99,61 @@ only-twice p q = record {
   past = λ n below. q .past n below ∙ p .past n below;
 }
 
--- the free slot is taken, the run moved there, the run gives way to the block's element, and the free slot gets its header
-pub block-formed : {layout : Layout} {slot level code first size fresh : ℕ} {before taken moved cut after : List ℕ} → CanCut layout before slot level first size
-    → 1 ≤ size → TookFree layout before taken (Taken fresh) → RunMoved (layout .width) slot first size fresh taken moved
-    → SplicedSlot (layout .width) slot first size 1 (blockWords fresh level code) moved cut
-    → SlotWritten (layout .width) fresh cut (withHeader (slotPart (layout .width) cut fresh) level code size) after
-    → BlockFormed layout slot level code first size (getD before 7 0) before after
-block-formed {slot = slot} {level = level} {code = code} {fresh = fresh} can some took put own headed =
-    let h = taken-slots took in
-    let still = cut-still can took in
-    rw (← took .0) (record {
-      long = headed .only .long ∙ own .only .long ∙ put .only .long ∙ h .long;
-      fresh-is = took .0;
-      fresh-below = took .1;
-      was-free = took .2;
-      head = headed .only .head ∙ own .only .head ∙ put .only .head ∙ h .head;
-      others = λ t ne nf. headed .only .others t nf ∙ own .only .others t ne ∙ put .only .others t nf ∙ h .slots t;
-      past = λ n below fresh-below. headed .only .past n fresh-below ∙ own .only .past n below ∙ put .only .past n fresh-below ∙ h .past n;
-      new-block = λ apart. rw (headed .self, ← h .slots slot) (moved-now code still (took .1) (own .only .others fresh apart ∙ put .self));
-      around = λ apart. let ne : slot ≡ fresh → ⊥ = λ e. apart (sym e) in
-          rw (headed .only .others slot ne, ← h .slots slot, ← put .only .others slot ne)
-          (spliced-now (run-gives-way (blockWords fresh level code) (cut-moved still (took .1) put) some (omega arith)) (own .spliced));
-    })
+-- the steps of forming a block, with the free slot as code has it: in an enum, and then its number as a size
+module _ {layout : Layout} {slot level first size : ℕ} {before : List ℕ} (taken : List ℕ) (free : FreeSlot) (fresh : ℕ) (is : free ≡ Taken fresh)
+    (took′ : TookFree layout before taken free) (can : CanCut layout before slot level first size) where
+  took : TookFree layout before taken (Taken fresh)
+  took = rw is at took′
+
+  still : CanCut layout taken slot level first size
+  still = cut-still can took
+
+  pub fresh-small : fresh ≤ mostSlots
+  fresh-small = omega (arith, took .1, can .fits .within .slots-to)
+
+  pub taken-fits : LayoutFits layout taken
+  taken-fits = still .fits
+
+  pub run-still-within : RunWithin (slotPart (layout .width) taken slot) first size
+  run-still-within = run-within still refl
+
+  module _ (other : ℕ) (wide : other ≡ fresh) where
+    pub fresh-below : other < layout .slots
+    fresh-below = rw wide (took .1)
+
+    module _ (moved : List ℕ) (put : RunMoved (layout .width) slot first size other taken moved) where
+      after-move : CanCut layout moved slot level first size
+      after-move = cut-moved still fresh-below put
+
+      pub moved-fits : LayoutFits layout moved
+      moved-fits = after-move .fits
+
+      pub moved-gives-way : (source : List ℕ) → 1 ≤ size → 2 ≤ length source → CanSplice (slotPart (layout .width) moved slot) source first size 1
+      moved-gives-way source some two = run-gives-way source after-move some two
+
+      module _ (source cut : List ℕ) (own : SplicedSlot (layout .width) slot first size 1 source moved cut) where
+        pub cut-fits : LayoutFits layout cut
+        cut-fits = record { within = can .fits .within; lies = rw (own .only .long) (after-move .fits .lies) }
+
+        -- the free slot is taken, the run moved there, the run gives way to the block's element, and the free slot gets its header
+        pub block-formed : (code tag again : ℕ) (after : List ℕ) → 1 ≤ size → again ≡ fresh → source ≡ code ∷ tag ∷ [] → tag ≡ blockTag fresh level
+            → SlotWritten (layout .width) again cut (withHeader (slotPart (layout .width) cut again) level code size) after
+            → BlockFormed layout slot level code first size (firstFreeWord before) before after
+        block-formed code tag again after some wide′ two named headed′ =
+            let h = taken-slots took in
+            let headed : SlotWritten (layout .width) fresh cut (withHeader (slotPart (layout .width) cut fresh) level code size) after = rw wide′ at headed′ in
+            let put : RunMoved (layout .width) slot first size fresh taken moved = rw wide at put in
+            let own : SplicedSlot (layout .width) slot first size 1 (blockWords fresh level code) moved cut = rw (two, named) at own in
+            rw (← took .0) (record {
+              long = headed .only .long ∙ own .only .long ∙ put .only .long ∙ h .long;
+              fresh-is = took .0;
+              fresh-below = took .1;
+              was-free = took .2;
+              head = headed .only .head ∙ own .only .head ∙ put .only .head ∙ h .head;
+              others = λ t ne nf. headed .only .others t nf ∙ own .only .others t ne ∙ put .only .others t nf ∙ h .slots t;
+              past = λ n below fresh-below. headed .only .past n fresh-below ∙ own .only .past n below ∙ put .only .past n fresh-below ∙ h .past n;
+              new-block = λ apart. rw (headed .self, ← h .slots slot) (moved-now code still (took .1) (own .only .others fresh apart ∙ put .self));
+              around = λ apart. let ne : slot ≡ fresh → ⊥ = λ e. apart (sym e) in
+                  rw (headed .only .others slot ne, ← h .slots slot, ← put .only .others slot ne)
+                  (spliced-now (run-gives-way (blockWords fresh level code) after-move some (omega arith)) (own .spliced));
+            })

@@ -6,7 +6,7 @@ use mathlib.Core.List.{List, _++_, append-assoc}
 use lib.ListN.{length, getD, take, drop, set, length-drop, List·getD-append}
 use lib.Seq.{paste, length-paste, take-at, drop-at, length-take-le, getD-take, getD-set-same, getD-set-other, drop-set-lt}
 use Rattle.pktree.specs.Elements.{size}
-use Rattle.measures.specs.Slot.{levelWord, codeWord, countWord}
+use Rattle.measures.specs.Slot.{levelWord, codeWord, countWord, elementIndex, levelIndex, codeIndex, countIndex, slotHead}
 use Rattle.store.specs.Splice.{elementsIn, CanSplice, Spliced, withHeader}
 use Rattle.store.specs.Placed.{Placed}
 use Rattle.store.proofs.Standing.{elementWords, SlotSays}
@@ -30,30 +30,31 @@ now-says {part} {es = es} s =
     record { level-is = s .level-is; code-is = s .code-is; count-is = count; elements-are = rw (← count) (s .elements-are) }
 
 -- the elements that a slot has room for are all there
-pub elements-long : (part : List ℕ) → 8 + 2 * countWord part ≤ length part → length (elementsIn part) ≡ 2 * countWord part
-elements-long part laid = length-take-le _ _ (omega (arith, length-drop 8 part))
+pub elements-long : (part : List ℕ) → elementIndex (countWord part) ≤ length part → length (elementsIn part) ≡ 2 * countWord part
+elements-long part laid = length-take-le _ _ (omega (arith, length-drop slotHead part))
 
 -- elements copied to their place leave the header
-pub header-kept : (part source : List ℕ) (n : ℕ) → 8 ≤ length part → countWord (paste part 8 source n) ≡ countWord part
+pub header-kept : (part source : List ℕ) (n : ℕ) → slotHead ≤ length part → countWord (paste part slotHead source n) ≡ countWord part
 header-kept part source n long =
-    let front : length (take 8 part) ≡ 8 = length-take-le 8 part long in
-    rw (append-assoc (take 8 part) (take n source) (drop (8 + n) part), List·getD-append (take 8 part) (take n source ++ drop (8 + n) part) 0 2 (omega arith)) (getD-take 8 part 2 0 (omega arith))
+    let front : length (take slotHead part) ≡ slotHead = length-take-le slotHead part long in
+    rw (append-assoc (take slotHead part) (take n source) (drop (slotHead + n) part), List·getD-append (take slotHead part) (take n source ++ drop (slotHead + n) part) 0 countIndex (omega arith)) (getD-take slotHead part countIndex 0 (omega arith))
 
 -- a header leaves the elements
-elements-kept : (part : List ℕ) (level code count : ℕ) → drop 8 (withHeader part level code count) ≡ drop 8 part
+elements-kept : (part : List ℕ) (level code count : ℕ) → drop slotHead (withHeader part level code count) ≡ drop slotHead part
 elements-kept part level code count =
-    drop-set-lt 8 (set (set part 0 level) 1 code) 2 count (omega arith) ∙ drop-set-lt 8 (set part 0 level) 1 code (omega arith) ∙ drop-set-lt 8 part 0 level (omega arith)
+    drop-set-lt slotHead (set (set part levelIndex level) codeIndex code) countIndex count (omega arith) ∙ drop-set-lt slotHead (set part levelIndex level) codeIndex code (omega arith) ∙ drop-set-lt slotHead part levelIndex level (omega arith)
 
 -- elements copied to their place, and the three words of the header set
-pub slot-wrote : (part source : List ℕ) (level code count : ℕ) → 8 + 2 * count ≤ length part → 2 * count ≤ length source
-    → SlotNow (withHeader (paste part 8 source (2 * count)) level code count) level code (take (2 * count) source)
+pub slot-wrote : (part source : List ℕ) (level code count : ℕ) → elementIndex count ≤ length part → 2 * count ≤ length source
+    → SlotNow (withHeader (paste part slotHead source (2 * count)) level code count) level code (take (2 * count) source)
 slot-wrote part source level code count room there =
     let n : ℕ = 2 * count in
-    let laid : List ℕ = paste part 8 source n in
-    let front : length (take 8 part) ≡ 8 = length-take-le 8 part (omega arith) in
+    let laid : List ℕ = paste part slotHead source n in
+    let front : length (take slotHead part) ≡ slotHead = length-take-le slotHead part (omega arith) in
     let source-long : length (take n source) ≡ n = length-take-le n source there in
-    let behind : drop 8 laid ≡ take n source ++ drop (8 + n) part = rw append-assoc (drop-at (take 8 part) (take n source ++ drop (8 + n) part) 8 front) in
-    let says = header-says laid level code count (omega (arith, length-paste part 8 source n room there)) in
+    let behind : drop slotHead laid ≡ take n source ++ drop (slotHead + n) part =
+    ap (drop slotHead) (append-assoc (take slotHead part) (take n source) (drop (slotHead + n) part)) ∙ drop-at (take slotHead part) _ slotHead front in
+    let says = header-says laid level code count (omega (arith, length-paste part slotHead source n room there)) in
     record {
       level-is = says .0;
       code-is = says .1;
@@ -68,12 +69,12 @@ pub spliced-now : {part source : List ℕ} {place removed inserted : ℕ} {after
     (take (2 * place) (elementsIn part) ++ (take (2 * inserted) source ++ drop (2 * (place + removed)) (elementsIn part)))
 spliced-now {part} {removed = removed} {inserted = inserted} {after = after} can s =
     let n : ℕ = countWord part - removed + inserted in
-    let front : length (take 8 part) ≡ 8 = length-take-le 8 part (omega (arith, can .laid)) in
-    let word : (i : ℕ) → i < 8 → getD after i 0 ≡ getD (set (take 8 part) 2 n) i 0 =
-    λ i b. sym (getD-take 8 after i 0 b) ∙ ap (λ (l : List ℕ). getD l i 0) (s .header) in
+    let front : length (take slotHead part) ≡ slotHead = length-take-le slotHead part (omega (arith, can .laid)) in
+    let word : (i : ℕ) → i < slotHead → getD after i 0 ≡ getD (set (take slotHead part) countIndex n) i 0 =
+    λ i b. sym (getD-take slotHead after i 0 b) ∙ ap (λ (l : List ℕ). getD l i 0) (s .header) in
     let kept : (i : ℕ) → i < 2 → getD after i 0 ≡ getD part i 0 =
-    λ i b. word i (omega arith) ∙ getD-set-other (take 8 part) 2 i n 0 (λ z. omega arith) ∙ getD-take 8 part i 0 (omega arith) in
-    let count : countWord after ≡ n = word 2 (omega arith) ∙ getD-set-same (take 8 part) 2 n 0 (omega arith) in
+    λ i b. word i (omega arith) ∙ getD-set-other (take slotHead part) countIndex i n 0 (λ z. omega arith) ∙ getD-take slotHead part i 0 (omega arith) in
+    let count : countWord after ≡ n = word countIndex (omega arith) ∙ getD-set-same (take slotHead part) countIndex n 0 (omega arith) in
     record {
       level-is = kept 0 (omega arith);
       code-is = kept 1 (omega arith);

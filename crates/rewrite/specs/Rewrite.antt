@@ -2,12 +2,13 @@
 use Prim.Native.Nat.{ℕ, _+_, _*_, _≤_, _<_}
 use mathlib.Core.Path.{_≡_}
 use mathlib.Core.List.{List, [], _∷_, _++_}
-use lib.ListN.{length, getD, take, drop, set}
+use lib.ListN.{length, take, drop, set}
 use lib.Seq.{paste}
-use Rattle.store.specs.Element.{tagSlots}
+use Rattle.store.specs.Element.{blockTag}
+use Rattle.measures.specs.Words.{headWords, firstFreeWord, firstFreeIndex}
 use Rattle.measures.specs.declared.sizes.Layout.{Layout}
-use Rattle.measures.specs.Layout.{LayoutFits}
-use Rattle.measures.specs.Slot.{slotPart, levelWord, codeWord, countWord, nextWord, OnlySlot}
+use Rattle.measures.specs.Layout.{LayoutFits, mostSlots}
+use Rattle.measures.specs.Slot.{slotPart, levelWord, codeWord, countWord, nextWord, OnlySlot, elementIndex, slotHead}
 use Rattle.store.specs.Splice.{elementsIn, Spliced}
 use Rattle.store.specs.FreeSlots.{Released}
 use Rattle.measures.proofs.SlotWrites.{SlotWritten}
@@ -27,7 +28,7 @@ pub record SplicedSlot (width slot place removed inserted : ℕ) (source before 
 
 -- a run of elements lies in a slot's words
 pub record RunWithin (part : List ℕ) (first size : ℕ) : Type 0 where
-  pub laid : 8 + 2 * countWord part ≤ length part
+  pub laid : elementIndex (countWord part) ≤ length part
   pub within : first + size ≤ countWord part
 
 -- a run of elements lies in the slot, and a block of it can be named
@@ -35,26 +36,30 @@ pub record CanCut (layout : Layout) (words : List ℕ) (slot level first size : 
   pub fits : LayoutFits layout words
   pub slot-below : slot < layout .slots
   pub level-to : level ≤ 16
-  pub laid : 8 + 2 * countWord (slotPart (layout .width) words slot) ≤ layout .width
+  pub laid : elementIndex (countWord (slotPart (layout .width) words slot)) ≤ layout .width
   pub within : first + size ≤ countWord (slotPart (layout .width) words slot)
+
+-- the words of what is handed up: fewer than k elements, and 01's largest k is 16
+abbrev pub scratchWords : ℕ
+scratchWords = 32
 
 -- what is handed up has room in the scratch words: fewer than k elements
 pub record CanHandUp (layout : Layout) (words : List ℕ) (slot level first size : ℕ) (scratch : List ℕ) : Type 0 where
   pub cut : CanCut layout words slot level first size
   pub few : countWord (slotPart (layout .width) words slot) < size + 16
-  pub room : length scratch ≡ 32
+  pub room : length scratch ≡ scratchWords
 
 -- the same of one slot's words
 pub record CanLayBeside (part : List ℕ) (slot level first size : ℕ) (scratch : List ℕ) : Type 0 where
   pub run : RunWithin part first size
-  pub slot-to : slot ≤ 65535
+  pub slot-to : slot ≤ mostSlots
   pub level-to : level ≤ 16
   pub few : countWord part < size + 16
-  pub room : length scratch ≡ 32
+  pub room : length scratch ≡ scratchWords
 
 -- the two words of a block's element
 abbrev pub blockWords : ℕ → ℕ → ℕ → List ℕ
-blockWords slot level code = code ∷ (1 + slot + level * tagSlots) ∷ []
+blockWords slot level code = code ∷ blockTag slot level ∷ []
 
 -- the words of the run, and those around it with one element in its place
 abbrev pub runWords : List ℕ → ℕ → ℕ → List ℕ
@@ -66,26 +71,26 @@ withBlock elements first size one = take (2 * first) elements ++ (one ++ drop (2
 -- the run stands as the first elements of the other slot, the header of which is as it was
 abbrev pub RunMoved : ℕ → ℕ → ℕ → ℕ → ℕ → List ℕ → List ℕ → Type 0
 RunMoved width slot first size other before after =
-    SlotWritten width other before (paste (slotPart width before other) 8 (runWords (elementsIn (slotPart width before slot)) first size) (2 * size)) after
+    SlotWritten width other before (paste (slotPart width before other) slotHead (runWords (elementsIn (slotPart width before slot)) first size) (2 * size)) after
 
 -- the first free slot holds the run as a block, and the slot has one element in the run's place
 pub record BlockFormed (layout : Layout) (slot level code first size fresh : ℕ) (before after : List ℕ) : Type 0 where
   pub long : length after ≡ length before
-  pub fresh-is : fresh ≡ getD before 7 0
+  pub fresh-is : fresh ≡ firstFreeWord before
   pub fresh-below : fresh < layout .slots
   pub was-free : levelWord (slotPart (layout .width) before fresh) ≡ 0
-  pub head : take 8 after ≡ set (take 8 before) 7 (nextWord (slotPart (layout .width) before fresh))
+  pub head : take headWords after ≡ set (take headWords before) firstFreeIndex (nextWord (slotPart (layout .width) before fresh))
   pub others : (t : ℕ) → (t ≡ slot → ⊥) → (t ≡ fresh → ⊥) → slotPart (layout .width) after t ≡ slotPart (layout .width) before t
-  pub past : (n : ℕ) → slot < n → fresh < n → drop (8 + n * layout .width) after ≡ drop (8 + n * layout .width) before
+  pub past : (n : ℕ) → slot < n → fresh < n → drop (headWords + n * layout .width) after ≡ drop (headWords + n * layout .width) before
   pub new-block : (fresh ≡ slot → ⊥) → SlotNow (slotPart (layout .width) after fresh) level code (runWords (elementsIn (slotPart (layout .width) before slot)) first size)
   pub around : (fresh ≡ slot → ⊥)
       → SlotNow (slotPart (layout .width) after slot) (levelWord (slotPart (layout .width) before slot)) (codeWord (slotPart (layout .width) before slot))
       (withBlock (elementsIn (slotPart (layout .width) before slot)) first size (blockWords fresh level code))
 
 abbrev pub FormMeets : Layout → ℕ → ℕ → ℕ → ℕ → ℕ → List ℕ → List ℕ → Forming → Type 0
-FormMeets layout slot level code first size before after Formed = BlockFormed layout slot level code first size (getD before 7 0) before after
+FormMeets layout slot level code first size before after Formed = BlockFormed layout slot level code first size (firstFreeWord before) before after
 FormMeets layout slot level code first size before after NoSlot =
-    (after ≡ before) × (getD before 7 0 < layout .slots → levelWord (slotPart (layout .width) before (getD before 7 0)) ≡ 0 → ⊥)
+    (after ≡ before) × (firstFreeWord before < layout .slots → levelWord (slotPart (layout .width) before (firstFreeWord before)) ≡ 0 → ⊥)
 
 -- the scratch has the elements beside the run, and the run as a block in this slot
 pub record LaidBeside (part : List ℕ) (slot level code first size : ℕ) (scratch scratch′ : List ℕ) (r : ℕ) : Type 0 where

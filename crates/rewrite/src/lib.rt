@@ -3,15 +3,19 @@ ghost use Prim.Native.Nat.{_+_, _*_, _≤_, _<_};
 ghost use mathlib.Core.Path.{_≡_};
 ghost use lib.ListN.{length};
 ghost use lib.Seq.{paste};
-ghost use Rattle.measures.specs.Layout.{LayoutFits};
-ghost use Rattle.measures.specs.Slot.{slotPart};
+ghost use Rattle.measures.specs.Layout.{LayoutFits, mostElements};
+ghost use Rattle.measures.specs.Slot.{slotPart, elementIndex, slotHead};
 ghost use Rattle.store.specs.Splice.{elementsIn, CanSplice, withHeader};
 ghost use Rattle.measures.proofs.SlotWrites.{SlotWritten};
 ghost use Rattle.rewrite.specs.Rewrite.{RunWithin, CanCut, CanLayBeside, CanHandUp, runWords, SplicedSlot, RunMoved, LaidBeside, FormMeets, HandedUpBlock, HandedUpAll};
 use measures::sizes::Layout;
+use measures::slots::COUNT;
+use measures::slots::MOST_ELEMENT_WORDS;
+use measures::slots::SLOT_HEAD;
 use measures::slots::offset;
 use measures::slots::slot_part;
 use measures::slots::wide;
+use store::elements::block_tag;
 use store::elements::copy_words;
 use store::elements::splice;
 use store::elements::write_header;
@@ -22,17 +26,17 @@ use store::free::take_free;
 // The elements of a slot written anew; its header is left to `head_slot`.
 fn lay_elements(store: &mut [u32], layout: Layout, slot: usize, source: &[u32], count: usize)
     requires { ⌜ LayoutFits layout (now store) × (slot < layout .slots) ⌝ }
-    requires { ⌜ (8 + 2 * count ≤ layout .width) × (2 * count ≤ length (now source)) ⌝ }
-    ensures { λ _. ⌜ SlotWritten (layout .width) slot (now (store .entry)) (paste (slotPart (layout .width) (now (store .entry)) slot) 8 (now (source .entry)) (2 * count)) (now (store .exit)) ⌝ }
+    requires { ⌜ (elementIndex count ≤ layout .width) × (2 * count ≤ length (now source)) ⌝ }
+    ensures { λ _. ⌜ SlotWritten (layout .width) slot (now (store .entry)) (paste (slotPart (layout .width) (now (store .entry)) slot) slotHead (now (source .entry)) (2 * count)) (now (store .exit)) ⌝ }
 {
     let at = offset(layout, slot);
     let width = layout.width;
-    copy_words(&mut store[at..at + width], 8, source, 2 * count);
+    copy_words(&mut store[at..at + width], SLOT_HEAD, source, 2 * count);
 }
 
 // The header of a slot written anew.
 fn head_slot(store: &mut [u32], layout: Layout, slot: usize, level: u32, code: u32, count: usize)
-    requires { ⌜ (LayoutFits layout (now store) × (slot < layout .slots)) × (count ≤ 75) ⌝ }
+    requires { ⌜ (LayoutFits layout (now store) × (slot < layout .slots)) × (count ≤ mostElements) ⌝ }
     ensures { λ _. ⌜ SlotWritten (layout .width) slot (now (store .entry)) (withHeader (slotPart (layout .width) (now (store .entry)) slot) level code count) (now (store .exit)) ⌝ }
 {
     let at = offset(layout, slot);
@@ -64,7 +68,7 @@ fn copy_run(target: &mut [u32], at: usize, part: &[u32], first: usize, size: usi
     requires { ⌜ RunWithin (now part) first size × (at + 2 * size ≤ length (now target)) ⌝ }
     ensures { λ _. ⌜ now (target .exit) ≡ paste (now (target .entry)) at (runWords (elementsIn (now (part .entry))) first size) (2 * size) ⌝ }
 {
-    let from = 8 + 2 * first;
+    let from = SLOT_HEAD + 2 * first;
     copy_words(target, at, &part[from..], 2 * size);
 }
 
@@ -74,7 +78,7 @@ fn move_run(store: &mut [u32], layout: Layout, slot: usize, first: usize, size: 
     requires { ⌜ RunWithin (slotPart (layout .width) (now store) slot) first size ⌝ }
     ensures { λ _. ⌜ RunMoved (layout .width) slot first size other (now (store .entry)) (now (store .exit)) ⌝ }
 {
-    let mut moved = [0u32; 150];
+    let mut moved = [0u32; MOST_ELEMENT_WORDS];
     copy_run(&mut moved, 0, slot_part(store, layout, slot), first, size);
     lay_elements(store, layout, other, &moved, size);
 }
@@ -102,7 +106,7 @@ pub fn form_block(
         return Forming::NoSlot;
     };
     move_run(store, layout, slot, first, size, wide(fresh));
-    let one = [code, 1 + fresh + level * 1048576];
+    let one = [code, block_tag(fresh, level)];
     splice_slot(store, layout, slot, first, size, &one, 1);
     head_slot(store, layout, wide(fresh), level, code, size);
     Forming::Formed
@@ -121,10 +125,10 @@ fn lay_beside(
     requires { ⌜ CanLayBeside (now part) slot level first size (now scratch) ⌝ }
     ensures { λ r. ⌜ LaidBeside (now (part .entry)) slot level code first size (now (scratch .entry)) (now (scratch .exit)) r ⌝ }
 {
-    let left = wide(part[2]) - first - size;
+    let left = wide(part[COUNT]) - first - size;
     copy_run(scratch, 0, part, 0, first);
     scratch[2 * first] = code;
-    scratch[2 * first + 1] = 1 + slot as u32 + level * 1048576;
+    scratch[2 * first + 1] = block_tag(slot as u32, level);
     copy_run(scratch, 2 * first + 2, part, first + size, left);
     first + 1 + left
 }
@@ -164,7 +168,7 @@ pub fn hand_up_all(store: &mut [u32], layout: Layout, slot: usize, scratch: &mut
     ensures { λ r. ⌜ HandedUpAll layout slot (now (store .entry)) (now (store .exit)) (now (scratch .entry)) (now (scratch .exit)) r ⌝ }
 {
     let part = slot_part(store, layout, slot);
-    let count = wide(part[2]);
+    let count = wide(part[COUNT]);
     copy_run(scratch, 0, part, 0, count);
     release(store, layout, slot);
     count

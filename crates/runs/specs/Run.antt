@@ -1,5 +1,5 @@
 -- The run of elements that a block to be formed takes: those in the block of the least level around a code that holds k of them.
-use Prim.Native.Nat.{ℕ, zero, suc, _+_, _-_, _*_, _/_, _^_, _≤_, _<_}
+use Prim.Native.Nat.{ℕ, zero, suc, _+_, _-_, _/_, _^_, _≤_, _<_}
 use mathlib.Core.Path.{_≡_}
 use mathlib.Core.List.{List, [], _∷_}
 use lib.Dec.{eqb}
@@ -7,21 +7,23 @@ use lib.ListN.{length}
 use Rattle.pktree.specs.Lists.{select}
 use Rattle.morton.specs.CommonLevel.{CommonLevel}
 use Rattle.store.specs.Splice.{codeAt}
-use Rattle.runs.specs.declared.Run.{Run}
-use Rattle.runs.specs.declared.Run.the-variants.{Formed, Nothing}
+use Rattle.runs.specs.declared.RunFound.{RunFound}
+use Rattle.runs.specs.declared.RunFound.the-variants.{Formed, Nothing}
+use Rattle.measures.specs.Layout.{mostElements, levelAboveRoot}
+use Rattle.measures.specs.Slot.{elementIndex}
 
 -- so many elements lie in the slot's words
-pub record Counted (part : List ℕ) (count : ℕ) : Type 0 where
-  pub laid : 8 + 2 * count ≤ length part
-  pub few : count ≤ 75
+pub record ElementsLaid (part : List ℕ) (count : ℕ) : Type 0 where
+  pub laid : elementIndex count ≤ length part
+  pub few : count ≤ mostElements
 
 pub record LevelAt (part : List ℕ) (count i code r : ℕ) : Type 0 where
   pub there : i < count → CommonLevel (codeAt part i) code r
-  pub missing : count ≤ i → r ≡ 17
+  pub missing : count ≤ i → r ≡ levelAboveRoot
 
 pub record LevelBefore (part : List ℕ) (i code r : ℕ) : Type 0 where
   pub there : 0 < i → CommonLevel (codeAt part (i - 1)) code r
-  pub missing : i ≡ 0 → r ≡ 17
+  pub missing : i ≡ 0 → r ≡ levelAboveRoot
 
 -- c lies in the block of this level around the code
 abbrev pub Near : ℕ → ℕ → ℕ → Type 0
@@ -65,6 +67,6 @@ pub record RunFormed (part : List ℕ) (count level k code j first size : ℕ) :
   pub many : k ≤ size
   pub right : AscendingCodes part count → IsRun part count k code j first size
 
-abbrev pub RunMeets : List ℕ → ℕ → ℕ → ℕ → ℕ → Run → Type 0
+abbrev pub RunMeets : List ℕ → ℕ → ℕ → ℕ → ℕ → RunFound → Type 0
 RunMeets part count level k code (Formed j first size) = RunFormed part count level k code j first size
 RunMeets part count level k code Nothing = AscendingCodes part count → (h : ℕ) → h < level → countNear h code (codesFrom part 0 count) < k

@@ -7,13 +7,13 @@ use mathlib.Core.List.{List, [], _∷_, _++_, append-assoc, append-nil}
 use lib.ListN.{length, take, drop, set, length-append, length-drop, length-set, take-append-drop}
 use lib.Seq.{sets, sets-eq, length-sets, take-at, drop-at, drop-drop, length-take-le}
 use Rattle.pktree.specs.Entries.{Entry}
-use Rattle.pktree.specs.Image.{fourBytes, codeBytes, levelBytes}
+use Rattle.pktree.specs.Image.{fourBytes, codeBytes, levelBytes, headerLength}
 use Rattle.saving.specs.Saving.{putFour, putEntry, putEntries, HeaderPut}
 
 -- stores keep the length
 pub length-put-entry : (n at : ℕ) (output : List ℕ) (level code : ℕ) → length (putEntry n at output level code) ≡ length output
 length-put-entry n at output level code =
-    length-set (putFour output (10 + 4 * at) code) (10 + 4 * n + at) level ∙ length-sets output (10 + 4 * at) (fourBytes code)
+    length-set (putFour output (headerLength + 4 * at) code) (headerLength + 4 * n + at) level ∙ length-sets output (headerLength + 4 * at) (fourBytes code)
 
 -- entries, then those after them
 pub put-entries-append : (n at : ℕ) (output : List ℕ) (a b : List Entry)
@@ -33,31 +33,31 @@ sets-at start old values rest i e n =
     sets-eq values (start ++ (old ++ rest)) i (omega arith) ∙ ap₂ (λ (a b : List ℕ). (a ++ values) ++ b) t d ∙ append-assoc start values rest
 
 -- the stores of the header are one run of ten
-pub header-lands : (output : List ℕ) (order k e n : ℕ) → 10 ≤ length output
-    → putFour (putFour (set (set output 0 order) 1 k) 2 e) 6 n ≡ (order ∷ k ∷ []) ++ (fourBytes e ++ (fourBytes n ++ drop 10 output))
+pub header-lands : (output : List ℕ) (order k e n : ℕ) → headerLength ≤ length output
+    → putFour (putFour (set (set output 0 order) 1 k) 2 e) 6 n ≡ (order ∷ k ∷ []) ++ (fourBytes e ++ (fourBytes n ++ drop headerLength output))
 header-lands output order k e n h = sets-eq ((order ∷ k ∷ []) ++ (fourBytes e ++ fourBytes n)) output 0 h
 
 -- the header takes the place of ten bytes
-pub length-headed : {before headed : List ℕ} {order k e n : ℕ} → HeaderPut before order k e n headed → 10 ≤ length before → length headed ≡ length before
-length-headed {before} h long = omega (arith, ap length (h .is), length-drop 10 before)
+pub length-headed : {before headed : List ℕ} {order k e n : ℕ} → HeaderPut before order k e n headed → headerLength ≤ length before → length headed ≡ length before
+length-headed {before} h long = omega (arith, ap length (h .is), length-drop headerLength before)
 
 -- one entry takes the four bytes after the codes before it, and the byte after the levels before it;
 -- `gap` are the codes still to come, `past` is what follows the levels
-put-entry-lands : (n at level code : ℕ) (start old gap levels one past : List ℕ) → length start ≡ 10 + 4 * at → length old ≡ 4
+put-entry-lands : (n at level code : ℕ) (start old gap levels one past : List ℕ) → length start ≡ headerLength + 4 * at → length old ≡ 4
     → 4 * at + (4 + length gap) ≡ 4 * n → length levels ≡ at → length one ≡ 1
     → putEntry n at (start ++ ((old ++ gap) ++ (levels ++ (one ++ past)))) level code
     ≡ (start ++ fourBytes code) ++ (gap ++ ((levels ++ (level ∷ [])) ++ past))
 put-entry-lands n at level code start old gap levels one past hs ho hg hl h1 =
     let till : List ℕ = ((start ++ fourBytes code) ++ gap) ++ levels in
-    let lt : length till ≡ 10 + 4 * n + at =
+    let lt : length till ≡ headerLength + 4 * n + at =
     omega (arith, length-append ((start ++ fourBytes code) ++ gap) levels, length-append (start ++ fourBytes code) gap, length-append start (fourBytes code)) in
-    let f : putFour (start ++ ((old ++ gap) ++ (levels ++ (one ++ past)))) (10 + 4 * at) code ≡ till ++ (one ++ past) =
-    rw (append-assoc old gap (levels ++ (one ++ past)), sets-at start old (fourBytes code) (gap ++ (levels ++ (one ++ past))) (10 + 4 * at) hs ho)
+    let f : putFour (start ++ ((old ++ gap) ++ (levels ++ (one ++ past)))) (headerLength + 4 * at) code ≡ till ++ (one ++ past) =
+    rw (append-assoc old gap (levels ++ (one ++ past)), sets-at start old (fourBytes code) (gap ++ (levels ++ (one ++ past))) (headerLength + 4 * at) hs ho)
     (simp append-assoc) in
-    rw (f, sets-at till one (level ∷ []) past (10 + 4 * n + at) lt h1) (simp append-assoc)
+    rw (f, sets-at till one (level ∷ []) past (headerLength + 4 * n + at) lt h1) (simp append-assoc)
 
 -- the last entries of n, after `at` others
-put-entries-land : (n at : ℕ) (start gap levels past : List ℕ) (l : List Entry) → length start ≡ 10 + 4 * at → length gap ≡ 4 * length l
+put-entries-land : (n at : ℕ) (start gap levels past : List ℕ) (l : List Entry) → length start ≡ headerLength + 4 * at → length gap ≡ 4 * length l
     → length levels ≡ at → at + length l ≡ n → length l ≤ length past
     → putEntries n at (start ++ (gap ++ (levels ++ past))) l ≡ (start ++ codeBytes l) ++ ((levels ++ levelBytes l) ++ drop (length l) past)
 put-entries-land n at start [] levels past [] hs hg hl hn hp = simp append-nil
@@ -76,7 +76,7 @@ put-entries-land n at start gap levels (b ∷ past) (e ∷ l) hs hg hl hn hp =
     ∙ simp append-assoc
 
 -- all entries of an image, after a header of ten bytes
-pub all-entries-land : (head rest : List ℕ) (l : List Entry) → length head ≡ 10 → 5 * length l ≤ length rest
+pub all-entries-land : (head rest : List ℕ) (l : List Entry) → length head ≡ headerLength → 5 * length l ≤ length rest
     → putEntries (length l) 0 (head ++ rest) l ≡ head ++ (codeBytes l ++ (levelBytes l ++ drop (5 * length l) rest))
 all-entries-land head rest l ten room =
     let n : ℕ = length l in

@@ -3,28 +3,29 @@ use Prim.Native.Nat.{ℕ, _+_, _≤_, _<_}
 use native.Mathlib.Omega.{arith}
 use mathlib.Core.Path.{_≡_, refl, ap, ap₂, subst₂, sym, _∙_}
 use mathlib.Core.List.{List}
-use lib.ListN.{length, getD}
+use lib.ListN.{length}
 use Rattle.pktree.specs.Tree.{blocks}
 use Rattle.pktree.proofs.Forests.{blockCount, length-blocks}
 use Rattle.pktree.proofs.Unlabelled.{blockCount-unlabelled}
+use Rattle.measures.specs.Words.{pixelsWord}
 use Rattle.measures.specs.declared.sizes.Layout.{Layout}
 use Rattle.measures.specs.declared.sizes.Sizes.{Sizes}
-use Rattle.measures.specs.Layout.{LaidOut}
+use Rattle.measures.specs.Layout.{LaidOut, levelAboveRoot}
 use Rattle.measures.specs.Sizes.{slotCount, sizesOf}
 use Rattle.measures.proofs.Usable.{layout-said}
-use Rattle.store.specs.Placed.{forestOf}
 use Rattle.store.specs.Sound.{Holds}
 use Rattle.store.specs.Opening.{CannotOpen}
 use Rattle.walks.proofs.RootWalk.{heldTree, root-walked}
 use Rattle.store.proofs.SoundView.{sound-view}
 use Rattle.saving.specs.declared.numbers.Numbers.the-variants.{Said, Damaged}
 use Rattle.saving.specs.Numbers.{NumbersAnswer}
-use Rattle.saving.specs.Tally.{TallyMeets}
+use Rattle.saving.specs.Numbers.{BlockTallied}
 use Rattle.saving.proofs.SavedImage.{tree-of-held}
+use Rattle.pktree.specs.Elements.{unlabelled}
 
 module _ {words : List ℕ} {sizes : Sizes} {layout : Layout} {n m : ℕ} (said : sizes ≡ sizesOf words) (laid : LaidOut sizes layout)
-    (meets : TallyMeets layout words 17 0 (sizes .order) 0 0 n) (wide : m ≡ n) where
-  same-slots : layout .slots ≡ slotCount (getD words 2 0) (getD words 3 0)
+    (meets : BlockTallied layout words levelAboveRoot 0 (sizes .order) 0 0 n) (wide : m ≡ n) where
+  same-slots : layout .slots ≡ slotCount (sizesOf words .k) (sizesOf words .most)
   same-slots = ap (λ (l : Layout). l .slots) (layout-said words said laid)
 
   -- the walk from the root of a sound store counts every block
@@ -33,7 +34,7 @@ module _ {words : List ℕ} {sizes : Sizes} {layout : Layout} {n m : ℕ} (said 
       let (es, v) = sound-view words (holds .placed) (holds .sound) in
       let is : length (blocks (heldTree words set)) ≡ blockCount (heldTree words set) = length-blocks (heldTree words set) in
       let few : 0 + blockCount (heldTree words set) ≤ layout .slots =
-      omega (arith, same-slots, v .few, blockCount-unlabelled es, ap blockCount (sym (ap forestOf (v .is)) ∙ tree-of-held holds)) in
+      omega (arith, same-slots, v .few, blockCount-unlabelled es, ap blockCount (sym (ap unlabelled (v .is)) ∙ tree-of-held holds)) in
       omega (arith, root-walked said laid (meets .right) holds .says few)
 
   -- the blocks of a sound store are counted
@@ -41,7 +42,7 @@ module _ {words : List ℕ} {sizes : Sizes} {layout : Layout} {n m : ℕ} (said 
   not-tallied h = record { bounds = tt; sound = λ set holds. absurd (omega (arith, same-slots, all-tallied holds .1)); closed = λ shut. refl }
 
   -- word 6 and the walk say the numbers
-  pub numbers-said : m ≤ layout .slots → getD words 6 0 ≤ sizes .most → NumbersAnswer words (Said (getD words 6 0) n)
+  pub numbers-said : m ≤ layout .slots → pixelsWord words ≤ sizes .most → NumbersAnswer words (Said (pixelsWord words) n)
   numbers-said h few =
       record {
         bounds = (omega (arith, ap (λ (s : Sizes). s .most) said), omega (arith, same-slots));
@@ -50,7 +51,7 @@ module _ {words : List ℕ} {sizes : Sizes} {layout : Layout} {n m : ℕ} (said 
       }
 
 -- a sound store has no more pixels than N
-pub too-many : {words : List ℕ} {sizes : Sizes} → sizes ≡ sizesOf words → sizes .most < getD words 6 0 → NumbersAnswer words Damaged
+pub too-many : {words : List ℕ} {sizes : Sizes} → sizes ≡ sizesOf words → sizes .most < pixelsWord words → NumbersAnswer words Damaged
 too-many said h =
     record {
       bounds = tt;

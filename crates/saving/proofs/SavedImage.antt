@@ -9,19 +9,19 @@ use Rattle.pktree.specs.Panel.{Panel}
 use Rattle.pktree.specs.PixelSet.{member}
 use Rattle.pktree.specs.Tree.{tree, blocks, pixels}
 use Rattle.pktree.specs.Entries.{Entry, entries}
-use Rattle.pktree.specs.Image.{codeBytes, levelBytes, header, image}
+use Rattle.pktree.specs.Image.{codeBytes, levelBytes, header, image, headerLength}
 use Rattle.pktree.proofs.EntryOrder.{number-of-entries}
 use Rattle.pktree.proofs.Images.{image-length}
 use Rattle.pktree.proofs.Unlabelled.{pixels-unlabelled}
-use Rattle.store.specs.Placed.{forestOf}
 use Rattle.measures.specs.Sizes.{panelOf, sizesOf}
 use Rattle.store.specs.Sound.{Holds}
 use Rattle.walks.proofs.RootWalk.{heldTree}
 use Rattle.saving.specs.Saving.{putEntries, HeaderPut}
 use Rattle.saving.proofs.EntryWrites.{all-entries-land}
+use Rattle.pktree.specs.Elements.{unlabelled}
 
 -- a sound store holds the tree of its own pixels
-pub tree-of-held : {words set : List ℕ} (holds : Holds words set) → forestOf (holds .placed) ≡ heldTree words set
+pub tree-of-held : {words set : List ℕ} (holds : Holds words set) → unlabelled (holds .placed) ≡ heldTree words set
 tree-of-held {words} holds = holds .sound .is-tree ∙ ap (λ (l : List ℕ). tree (panelOf (sizesOf words)) (member l)) (holds .set-is)
 
 -- whose pixels are the set
@@ -33,14 +33,14 @@ pub entries-counted : {words set : List ℕ} → Holds words set → length set 
 entries-counted {words} {set} holds = omega (arith, number-of-entries (heldTree words set), ap length (pixels-of-held holds))
 
 -- the bytes after the header and all entries
-pub image-put : (panel : Panel) (set before headed after : List ℕ) (e : ℕ) → e ≡ length (entries (tree panel (member set))) → 10 + 5 * e ≤ length before
+pub image-put : (panel : Panel) (set before headed after : List ℕ) (e : ℕ) → e ≡ length (entries (tree panel (member set))) → headerLength + 5 * e ≤ length before
     → HeaderPut before (panel .order) (panel .k) e (length set) headed → after ≡ putEntries e 0 headed (entries (tree panel (member set)))
     → after ≡ image panel set ++ drop (length (image panel set)) before
 image-put panel set before headed after e is room h put =
     let l : List Entry = entries (tree panel (member set)) in
-    let start : headed ≡ header panel (length l) (length set) ++ drop 10 before = rw is at (h .is) in
-    let all : after ≡ putEntries (length l) 0 (header panel (length l) (length set) ++ drop 10 before) l = put ∙ ap₂ (λ (n : ℕ) (o : List ℕ). putEntries n 0 o l) is start in
+    let start : headed ≡ header panel (length l) (length set) ++ drop headerLength before = rw is at (h .is) in
+    let all : after ≡ putEntries (length l) 0 (header panel (length l) (length set) ++ drop headerLength before) l = put ∙ ap₂ (λ (n : ℕ) (o : List ℕ). putEntries n 0 o l) is start in
     let rest : List ℕ = drop (length (image panel set)) before in
-    let past : drop (5 * length l) (drop 10 before) ≡ rest = drop-drop (5 * length l) 10 before ∙ ap (λ (n : ℕ). drop n before) (sym (image-length panel set)) in
-    all ∙ all-entries-land (header panel (length l) (length set)) (drop 10 before) l refl (omega (arith, length-drop 10 before))
+    let past : drop (5 * length l) (drop headerLength before) ≡ rest = drop-drop (5 * length l) headerLength before ∙ ap (λ (n : ℕ). drop n before) (sym (image-length panel set)) in
+    all ∙ all-entries-land (header panel (length l) (length set)) (drop headerLength before) l refl (omega (arith, length-drop headerLength before))
     ∙ rw (past, append-assoc (codeBytes l) (levelBytes l) rest)

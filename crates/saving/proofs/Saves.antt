@@ -1,5 +1,5 @@
 -- The walk that writes the entries.
-use Prim.Native.Nat.{ℕ, _+_, _≤_, _<_}
+use Prim.Native.Nat.{ℕ, _+_, _≤_}
 use native.Mathlib.Omega.{arith}
 use native.Mathlib.Numerals.{add-one}
 use mathlib.Core.Path.{_≡_, refl, ap, _∙_}
@@ -14,7 +14,7 @@ use Rattle.measures.specs.Layout.{LayoutFits}
 use Rattle.walks.specs.Entered.{Entered}
 use Rattle.walks.proofs.Walks.{Walk, InLoop, not-entered, loop-ends, loop-open}
 use Rattle.saving.specs.declared.Saving.{Saving}
-use Rattle.saving.specs.Saving.{putEntry, CanSave, PixelPut, EntriesPut, SaveMeets}
+use Rattle.saving.specs.Saving.{putEntry, CanSave, PixelPut, EntriesPut, BlockSaved}
 use Rattle.saving.proofs.EntryWrites.{length-put-entry, put-entries-append}
 
 -- entries behind others
@@ -34,7 +34,7 @@ save-walk = record { none = λ s. record { says = λ room. (omega arith, refl) }
 pub written-is : {after o : List ℕ} {r n : ℕ} → o ≡ after → n ≡ r → _≡_ {A = List ℕ × ℕ} (o, n) (after, r)
 written-is e f = rw (e, f)
 
-pub no-room : {n code at : ℕ} {before : List ℕ} → n ≤ at → PixelPut n code before before at (n + 1)
+pub no-room : {n code at r : ℕ} {before : List ℕ} → n ≤ at → PixelPut n code before before at r
 no-room h = record { long = refl; put = λ room. absurd (omega arith) }
 
 pub pixel-put : {n code at : ℕ} {before after : List ℕ} → after ≡ putEntry n at before 0 code → PixelPut n code before after at (at + 1)
@@ -62,17 +62,17 @@ save-within to can long = record { fits = can .fits; above-to = omega (arith, to
 
 module _ {saving : Saving} {words : List ℕ} {above slot level code : ℕ} {before : List ℕ} {at : ℕ} where
   -- even the own entry has no room
-  pub save-full : saving .entries ≤ at → SaveMeets saving words above slot level code before before at (saving .entries + 1)
+  pub save-full : saving .entries ≤ at → BlockSaved saving words above slot level code before before at (saving .entries + 1)
   save-full full =
       record { right = record { right = λ k es low view. record { says = λ room. absurd (omega arith) } }; long = refl; closed = λ shut. omega arith }
 
   pub save-barred : {o : Opening} → o ≡ Damaged → Entered (saving .layout) words above slot level code o → LayoutFits (saving .layout) words
-      → SaveMeets saving words above slot level code before before at (saving .entries + 1)
+      → BlockSaved saving words above slot level code before before at (saving .entries + 1)
   save-barred e entered fits = record { right = not-entered e entered fits; long = refl; closed = λ shut. omega arith }
 
   pub save-whole : {count i next : ℕ} {part own after : List ℕ} → own ≡ putEntry (saving .entries) at before level code
       → InLoop (EntriesPut saving) (saving .layout) words above slot level code count part i (own, at + 1) (after, next) → count ≤ i → length after ≡ length own
-      → SaveMeets saving words above slot level code before after at next
+      → BlockSaved saving words above slot level code before after at next
   save-whole put to end long =
       record {
         right = loop-ends to end (λ f p. own-entry-first put p);

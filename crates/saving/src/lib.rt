@@ -2,14 +2,17 @@
 ghost use Prim.Native.Nat.{_+_, _*_, _≤_, _<_};
 ghost use mathlib.Core.Path.{_≡_};
 ghost use lib.ListN.{length};
-ghost use Rattle.saving.specs.Saving.{putFour, putEntry, PixelPut, CanSave, SaveMeets, HeaderPut, ImageWritten, FrontWritten, SaveAnswer};
+ghost use Rattle.saving.specs.Saving.{putFour, putEntry, PixelPut, CanSave, BlockSaved, HeaderPut, ImageWritten, FrontWritten, SaveAnswer};
 ghost use Rattle.measures.specs.Sizes.{UsableStore, sizesOf};
+ghost use Rattle.pktree.specs.Image.{headerLength};
 use crate::numbers::Numbers;
 use crate::numbers::read_numbers;
 use measures::sizes::Layout;
 use measures::sizes::Sizes;
 use measures::sizes::layout_of;
+use measures::slots::LEVEL_ABOVE_ROOT;
 use measures::slots::wide;
+use std::num::wrapping_add_usize;
 use store::elements::Element;
 use store::elements::element_at;
 use store::opening::Opening;
@@ -17,6 +20,9 @@ use walks::enter;
 use walks::part_of;
 
 pub mod numbers;
+
+// 01: m, k, e and n come first.
+const HEADER_LENGTH: usize = 10;
 
 // Four bytes, the low one first.
 fn put_four(output: &mut [u8], at: usize, value: u32)
@@ -31,11 +37,11 @@ fn put_four(output: &mut [u8], at: usize, value: u32)
 
 // Entry `at` of `entries`: its code in the first array, its level in the second.
 fn put_entry(output: &mut [u8], entries: usize, at: usize, level: u32, code: u32)
-    requires { ⌜ (10 + 5 * entries ≤ length (now output)) × ((at < entries) × (level ≤ 16)) ⌝ }
+    requires { ⌜ (headerLength + 5 * entries ≤ length (now output)) × ((at < entries) × (level ≤ 16)) ⌝ }
     ensures { λ _. ⌜ now (output .exit) ≡ putEntry entries at (now (output .entry)) level code ⌝ }
 {
-    put_four(output, 10 + 4 * at, code);
-    output[10 + 4 * entries + at] = (level % 256) as u8;
+    put_four(output, HEADER_LENGTH + 4 * at, code);
+    output[HEADER_LENGTH + 4 * entries + at] = (level % 256) as u8;
 }
 
 // Where the slots lie, and how many entries the image has.
@@ -46,11 +52,11 @@ pub struct Saving {
 
 // A pixel's entry, at level 0; past the last entry where it has no room, which only damaged words bring about.
 fn save_pixel(output: &mut [u8], entries: usize, at: usize, code: u32) -> usize
-    requires { ⌜ 10 + 5 * entries ≤ length (now output) ⌝ }
+    requires { ⌜ headerLength + 5 * entries ≤ length (now output) ⌝ }
     ensures { λ r. ⌜ PixelPut entries code (now (output .entry)) (now (output .exit)) at r ⌝ }
 {
     if entries <= at {
-        return entries + 1;
+        return wrapping_add_usize(at, 1);
     }
     put_entry(output, entries, at, 0, code);
     at + 1
@@ -68,7 +74,7 @@ fn save_block(
     at: usize,
 ) -> usize
     requires { ⌜ CanSave saving (now store) above (now output) ⌝ }
-    ensures { λ r. ⌜ SaveMeets saving (now (store .entry)) above slot level code (now (output .entry)) (now (output .exit)) at r ⌝ }
+    ensures { λ r. ⌜ BlockSaved saving (now (store .entry)) above slot level code (now (output .entry)) (now (output .exit)) at r ⌝ }
 {
     let entries = saving.entries;
     if entries <= at {
@@ -95,7 +101,7 @@ fn save_block(
 
 // The sizes at the head of an image.
 fn put_header(output: &mut [u8], order: u32, k: u32, entries: u32, pixels: u32)
-    requires { ⌜ (10 ≤ length (now output)) × ((order ≤ 16) × (k ≤ 16)) ⌝ }
+    requires { ⌜ (headerLength ≤ length (now output)) × ((order ≤ 16) × (k ≤ 16)) ⌝ }
     ensures { λ _. ⌜ HeaderPut (now (output .entry)) order k entries pixels (now (output .exit)) ⌝ }
 {
     output[0] = (order % 256) as u8;
@@ -107,7 +113,7 @@ fn put_header(output: &mut [u8], order: u32, k: u32, entries: u32, pixels: u32)
 // The header and the entries, into an output of just the image's length; the index past the last entry.
 fn write_image(store: &[u32], sizes: Sizes, pixels: u32, blocks: u32, output: &mut [u8]) -> usize
     requires { ⌜ UsableStore (now store) × (sizes ≡ sizesOf (now store)) ⌝ }
-    requires { ⌜ (10 + 5 * (pixels + blocks) ≤ length (now output)) × (pixels + blocks < 4294967296) ⌝ }
+    requires { ⌜ (headerLength + 5 * (pixels + blocks) ≤ length (now output)) × (pixels + blocks < 4294967296) ⌝ }
     ensures { λ r. ⌜ ImageWritten sizes pixels blocks (now (store .entry)) (now (output .entry)) (now (output .exit)) r ⌝ }
 {
     put_header(output, sizes.order, sizes.k, pixels + blocks, pixels);
@@ -115,7 +121,16 @@ fn write_image(store: &[u32], sizes: Sizes, pixels: u32, blocks: u32, output: &m
         layout: layout_of(sizes),
         entries: wide(pixels) + wide(blocks),
     };
-    save_block(store, saving, 17, 0, sizes.order, 0, output, 0)
+    save_block(
+        store,
+        saving,
+        LEVEL_ABOVE_ROOT,
+        0,
+        sizes.order,
+        0,
+        output,
+        0,
+    )
 }
 
 // Into the first n bytes; those past them are not lent.
@@ -128,7 +143,7 @@ fn write_front(
     n: usize,
 ) -> usize
     requires { ⌜ UsableStore (now store) × (sizes ≡ sizesOf (now store)) ⌝ }
-    requires { ⌜ ((10 + 5 * (pixels + blocks) ≤ n) × (n ≤ length (now output))) × (pixels + blocks < 4294967296) ⌝ }
+    requires { ⌜ ((headerLength + 5 * (pixels + blocks) ≤ n) × (n ≤ length (now output))) × (pixels + blocks < 4294967296) ⌝ }
     ensures { λ r. ⌜ FrontWritten sizes pixels blocks n (now (store .entry)) (now (output .entry)) (now (output .exit)) r ⌝ }
 {
     write_image(store, sizes, pixels, blocks, &mut output[..n])
@@ -137,7 +152,7 @@ fn write_front(
 pub enum Imaged {
     Whole(usize),
     TooShort(usize),
-    Unreadable,
+    Damaged,
 }
 
 // 01's save, where refusal 3 does not apply: the entries are counted, then a walk writes each once and finds as many.
@@ -146,15 +161,15 @@ pub fn save(store: &[u32], sizes: Sizes, output: &mut [u8]) -> Imaged
     ensures { λ r. ⌜ SaveAnswer (now (store .entry)) (now (output .entry)) (now (output .exit)) r ⌝ }
 {
     let Numbers::Said { pixels, blocks } = read_numbers(store, sizes) else {
-        return Imaged::Unreadable;
+        return Imaged::Damaged;
     };
     let entries = wide(pixels) + wide(blocks);
-    let needed = 10 + 5 * entries;
+    let needed = HEADER_LENGTH + 5 * entries;
     if output.len() < needed {
         return Imaged::TooShort(needed);
     }
     if write_front(store, sizes, pixels, blocks, output, needed) != entries {
-        return Imaged::Unreadable;
+        return Imaged::Damaged;
     }
     Imaged::Whole(needed)
 }

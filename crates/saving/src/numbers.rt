@@ -1,20 +1,20 @@
 ghost use mathlib.Core.Path.{_≡_};
 ghost use Rattle.saving.specs.Numbers.{NumbersAnswer};
-ghost use Rattle.saving.specs.Tally.{TallyMeets};
+ghost use Rattle.saving.specs.Numbers.{BlockTallied};
 ghost use Rattle.measures.specs.Layout.{LayoutFits};
 ghost use Rattle.measures.specs.Sizes.{UsableStore, sizesOf};
 use measures::sizes::Layout;
 use measures::sizes::Sizes;
 use measures::sizes::layout_of;
+use measures::slots::LEVEL_ABOVE_ROOT;
+use measures::slots::MORE_THAN_SLOTS;
 use measures::slots::wide;
+use measures::words::PIXELS;
 use store::elements::Element;
 use store::elements::element_at;
 use store::opening::Opening;
 use walks::enter;
 use walks::part_of;
-
-// More blocks than there are slots: what a walk over damaged words answers.
-const DAMAGED: u32 = 4294967295;
 
 // The block in this slot, an element of a block of level `above`, and those below it, after `opened` others: each is opened once, and pixels are
 // passed over.
@@ -28,13 +28,13 @@ fn tally_block(
     opened: u32,
 ) -> u32
     requires { ⌜ LayoutFits layout (now store) ⌝ }
-    ensures { λ r. ⌜ TallyMeets layout (now (store .entry)) above slot level code opened r ⌝ }
+    ensures { λ r. ⌜ BlockTallied layout (now (store .entry)) above slot level code opened r ⌝ }
 {
     if layout.slots <= wide(opened) {
-        return DAMAGED;
+        return MORE_THAN_SLOTS;
     }
     let Opening::Elements(count) = enter(store, layout, above, slot, level, code) else {
-        return DAMAGED;
+        return MORE_THAN_SLOTS;
     };
     let part = part_of(store, layout, slot);
     let mut blocks = opened + 1;
@@ -56,17 +56,17 @@ pub enum Numbers {
     Damaged,
 }
 
-// Word 6 is the number of pixels; the blocks are tallied from the root on.
+// A word says the number of pixels; the blocks are tallied from the root on.
 pub fn read_numbers(store: &[u32], sizes: Sizes) -> Numbers
     requires { ⌜ UsableStore (now store) × (sizes ≡ sizesOf (now store)) ⌝ }
     ensures { λ r. ⌜ NumbersAnswer (now (store .entry)) r ⌝ }
 {
-    let pixels = store[6];
+    let pixels = store[PIXELS];
     if sizes.most < pixels {
         return Numbers::Damaged;
     }
     let layout = layout_of(sizes);
-    let blocks = tally_block(store, layout, 17, 0, sizes.order, 0, 0);
+    let blocks = tally_block(store, layout, LEVEL_ABOVE_ROOT, 0, sizes.order, 0, 0);
     if layout.slots < wide(blocks) {
         return Numbers::Damaged;
     }

@@ -9,10 +9,14 @@ use Rattle.measures.specs.Sizes.{panelOf, ValidSizes, sizesOf}
 use Rattle.store.specs.Sound.{Holds}
 use Rattle.image.specs.Judged.{WellFormed, FitsRegister, ImageOfSome}
 use Rattle.loading.specs.Loaded.{HasImage}
-use Rattle.register.specs.Calls.{asked}
+use Rattle.promises.specs.Calls.{asked}
 
 abbrev pub sizesShown : List ℕ → Sizes
 sizesShown bytes = asked (getD bytes 0 0) (getD bytes 1 0) 400
+
+-- the words of a store for N = 400 with any k: k = 2 needs the most
+abbrev pub wordsFor400 : ℕ
+wordsFor400 = 7208
 
 abbrev pub LengthOut : List ℕ → Type 0
 LengthOut bytes = (length bytes < 2) ⊎ (4010 < length bytes)

@@ -2,7 +2,7 @@
 ghost use Prim.Native.Nat.{_≤_};
 ghost use mathlib.Core.Path.{_≡_};
 ghost use lib.ListN.{length};
-ghost use Rattle.show.specs.Shown.{ShowMeets};
+ghost use Rattle.show.specs.Shown.{wordsFor400, ShowMeets};
 use image::parts::byte_at;
 use image::parts::code_at;
 use image::parts::codes_part;
@@ -14,16 +14,18 @@ use measures::slots::wide;
 use register::Saving;
 use register::refusal_of;
 
-// A store for N = 400 with any k.
-pub fn store_for_400() -> [u32; 7208]
-    ensures { λ r. ⌜ 7208 ≡ length r ⌝ }
+// The words of a store for N = 400 with any k: k = 2 needs the most.
+const WORDS_FOR_400: usize = 7208;
+
+pub fn store_for_400() -> [u32; WORDS_FOR_400]
+    ensures { λ r. ⌜ wordsFor400 ≡ length r ⌝ }
 {
-    [0u32; 7208]
+    [0u32; WORDS_FOR_400]
 }
 
 // The register of the image's pixels, with N = 400; or the number of the refusal.
 fn open_image(store: &mut [u32], image: &[u8]) -> u32
-    requires { ⌜ 7208 ≤ length (now store) ⌝ }
+    requires { ⌜ wordsFor400 ≤ length (now store) ⌝ }
     ensures { λ r. ⌜ ShowMeets (now (store .exit)) (now (image .entry)) r ⌝ }
 {
     if image.len() < 2 {
@@ -43,7 +45,7 @@ fn open_image(store: &mut [u32], image: &[u8]) -> u32
 
 // What pkshow prints of these bytes: the register's panel line and entries, or the refusal. It answers the refusal's number.
 pub fn show(store: &mut [u32], image: &[u8], output: &mut [u8]) -> u32
-    requires { ⌜ 7208 ≤ length (now store) ⌝ }
+    requires { ⌜ wordsFor400 ≤ length (now store) ⌝ }
     ensures { λ r. ⌜ ShowMeets (now (store .exit)) (now (image .entry)) r ⌝ }
 {
     let refusal = open_image(store, image);

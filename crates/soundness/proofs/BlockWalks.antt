@@ -3,54 +3,131 @@ use Prim.Native.Nat.{ℕ, suc, _+_, _-_, _^_, _≤_, _<_}
 use native.Mathlib.Omega.{arith}
 use mathlib.Core.Path.{_≡_, ap, subst, sym, _∙_}
 use mathlib.Core.List.{List}
+use lib.ListN.{length}
 use Rattle.store.specs.declared.elements.Element.{Element}
+use Rattle.store.specs.declared.opening.Opening.{Opening}
+use Rattle.store.specs.declared.opening.Opening.the-variants.{Elements, Damaged}
+use Rattle.store.specs.Opening.{HeaderSays}
+use Rattle.store.proofs.OpenedSlot.{few-elements}
 use Rattle.store.specs.Element.{elementAt}
 use Rattle.store.specs.Placed.{Placed}
 use Rattle.soundness.specs.declared.pass.Pass.{Pass}
+use Rattle.soundness.specs.declared.pass.Passing.{Passing}
 use Rattle.soundness.specs.declared.pass.Passing.the-variants.{On, Refused}
 use Rattle.soundness.specs.declared.walk.Claim.{Claim}
 use Rattle.soundness.specs.declared.walk.Limits.{Limits}
 use Rattle.soundness.specs.declared.walk.Seen.{Seen}
-use Rattle.soundness.specs.declared.walk.Walked.the-variants.{Broken}
-use Rattle.soundness.specs.Pass.{entryOf, PassMeets}
-use Rattle.soundness.specs.Walk.{WithinLimits, seenWith, claimed, NoneClaimed, BlockOpened, BlockWalked, ElementWalked, WalkElementMeets}
+use Rattle.soundness.specs.declared.walk.Walked.{Walked}
+use Rattle.soundness.specs.declared.walk.Walked.the-variants.{Whole, Unsound}
+use Rattle.soundness.specs.Pass.{firstPass, entryOf, PassMeets}
+use Rattle.soundness.specs.Walk.{CanWalk, WithinLimits, seenWith, claimed, NoneClaimed, BlockOpened, OpenMeets, BlockWalked, CanWalkElement, ElementWalked, WalkElementMeets}
 use Rattle.soundness.proofs.SeenParts.{seen-block}
-use Rattle.soundness.proofs.WalkedTo.{partOf, WalkedTo, walked-one}
-use Rattle.soundness.proofs.WalkRefusals.{refused, element-broken, past-end, whole}
+use Rattle.soundness.proofs.WalkedTo.{partOf, WalkedTo, walked-none, walked-one}
+use Rattle.soundness.proofs.WalkRefusals.{refused, element-unsound, past-end, whole}
+use Rattle.measures.specs.Slot.{elementIndex}
 
 -- the block itself is seen
 abbrev pub oneSeen : Seen → Seen
 oneSeen seen = record { blocks = seen .blocks + 1; pixels = seen .pixels }
 
-module _ {limits : Limits} {words : List ℕ} {claim : Claim} {seen : Seen} {count i : ℕ} {pass : Pass} {now : Seen}
-    (o : BlockOpened limits words claim seen count) (w : WalkedTo limits words claim (oneSeen seen) i pass now) where
-  -- what there is room for is the same, said of the block or of its elements
-  room-inside : (es : Placed) → WithinLimits limits (seenWith seen (claimed claim es)) → WithinLimits limits (seenWith (oneSeen seen) es)
-  room-inside es room = subst (WithinLimits limits) (sym (seen-block seen claim es)) room
+-- a block that was opened, in its loop: the first i elements of it are walked
+pub record InBlock (limits : Limits) (words part : List ℕ) (claim : Claim) (first : Seen) (count i : ℕ) (pass : Pass) (now : Seen) : Type 0 where
+  pub can : CanWalk limits words claim first
+  pub header : HeaderSays (partOf limits words claim) (claim .level) (claim .code) count
+  pub many : claim .least ≤ count
+  pub part-is : part ≡ partOf limits words claim
+  pub at : i ≤ count
+  pub met-few : pass .met < limits .k
+  pub within : WithinLimits limits now
+  pub walked : WalkedTo limits words claim first i pass now
 
-  block-ends : 1 ≤ claim .level → claim .code + 4 ^ suc (claim .level - 1) ≡ claim .code + 4 ^ claim .level
-  block-ends low = let e : suc (claim .level - 1) ≡ claim .level = omega arith in ap (λ (l : ℕ). claim .code + 4 ^ l) e
+module _ {limits : Limits} {words : List ℕ} {claim : Claim} {seen : Seen} where
+  module _ {o : Opening} (meets : OpenMeets limits words claim seen o) where
+    pub not-opened : o ≡ Damaged → NoneClaimed limits words claim seen
+    not-opened shut = rw shut at meets
 
-  module _ {element : Element} (e : element ≡ elementAt (partOf limits words claim) i) (below : i < count) where
-    pub refused-at : PassMeets (limits .k) (claim .level - 1) pass (entryOf element) Refused → NoneClaimed limits words claim seen
-    refused-at p es b room = refused w e (o .header .count-is) below p es b (room-inside es room)
-
-    pub broken-at : WalkElementMeets limits words element now Broken → NoneClaimed limits words claim seen
-    broken-at p es b room = element-broken w e (o .header .count-is) below p es b (room-inside es room)
-
-    pub turn : {next : Pass} {more : Seen} → PassMeets (limits .k) (claim .level - 1) pass (entryOf element) (On next)
-        → ElementWalked limits words element now more → WalkedTo limits words claim (oneSeen seen) (i + 1) next more
-    turn p x = walked-one e (omega (arith, o .header .laid)) w p x
-
-  module _ (low : 1 ≤ claim .level) (all : i ≡ count) where
-    pub too-long : claim .code + 4 ^ claim .level < pass .from → NoneClaimed limits words claim seen
-    too-long far es b room = past-end w (o .header) all (omega (arith, block-ends low)) es b
-
-    pub block-whole : pass .from ≤ claim .code + 4 ^ claim .level → WithinLimits limits now → BlockWalked limits words claim seen now
-    block-whole ends within =
+    pub block-begins : {part : List ℕ} {count : ℕ} {pass : Pass} → CanWalk limits words claim seen → o ≡ Elements count → part ≡ partOf limits words claim
+        → pass ≡ firstPass (claim .level - 1) (claim .code) → InBlock limits words part claim (oneSeen seen) count 0 pass (oneSeen seen)
+    block-begins {count = count} can is part-is begins =
+        let opened : BlockOpened limits words claim seen count = rw is at meets in
+        let within : WithinLimits limits (oneSeen seen) = record { blocks-to = omega (arith, opened .room); pixels-to = can .within .pixels-to } in
         record {
-          found = w .past;
-          at = whole w (o .header) all (o .many) (omega (arith, block-ends low));
-          now-is = w .now-is ∙ seen-block seen claim (w .past);
+          can = record { can = can .can; slot-below = can .slot-below; level-from = can .level-from; level-to = can .level-to; within = within };
+          header = opened .header;
+          many = opened .many;
+          part-is = part-is;
+          at = omega arith;
+          met-few = rw begins (omega (arith, can .can .k-from));
           within = within;
+          walked = rw begins walked-none;
+        }
+
+module _ {limits : Limits} {words part : List ℕ} {claim : Claim} {first : Seen} {count i : ℕ} {pass : Pass} {now : Seen}
+    (l : InBlock limits words part claim first count i pass now) where
+  -- what there is room for is the same, said of the block or of its elements
+  room-inside : (seen : Seen) → first ≡ oneSeen seen → (es : Placed) → WithinLimits limits (seenWith seen (claimed claim es)) → WithinLimits limits (seenWith first es)
+  room-inside seen is es room = rw is (subst (WithinLimits limits) (sym (seen-block seen claim es)) room)
+
+  block-ends : claim .code + 4 ^ suc (claim .level - 1) ≡ claim .code + 4 ^ claim .level
+  block-ends = let e : suc (claim .level - 1) ≡ claim .level = omega (arith, l .can .level-from) in ap (λ (i : ℕ). claim .code + 4 ^ i) e
+
+  module _ (below : i < count) where
+    pub element-there : elementIndex i + 2 ≤ length part
+    element-there = omega (arith, l .header .laid, ap length (l .part-is))
+
+    pub next-fits : i + 1 < 18446744073709551616
+    next-fits = omega (arith, few-elements (l .can .can .fits) (l .can .slot-below) (l .header))
+
+    module _ {element : Element} (is : element ≡ elementAt part i) where
+      of-slot : element ≡ elementAt (partOf limits words claim) i
+      of-slot = rw (l .part-is) at is
+
+      pub refused-at : {seen : Seen} {p : Passing} → first ≡ oneSeen seen → p ≡ Refused → PassMeets (limits .k) (claim .level - 1) pass (entryOf element) p → NoneClaimed limits words claim seen
+      refused-at begun refuses passing =
+          record { none = λ es b room. refused (l .walked) of-slot (l .header .count-is) below (rw refuses at passing) es b (room-inside _ begun es room) }
+
+      module _ {p : Passing} {next : Pass} (goes-on : p ≡ On next) (passing : PassMeets (limits .k) (claim .level - 1) pass (entryOf element) p) where
+        passed-on : PassMeets (limits .k) (claim .level - 1) pass (entryOf element) (On next)
+        passed-on = rw goes-on at passing
+
+        pub element-can : CanWalkElement limits words element (claim .level) now
+        element-can =
+            record {
+              can = l .can .can;
+              level-to = l .can .level-to;
+              below = omega (arith, passed-on .bounds .1, l .can .level-from);
+              within = l .within;
+            }
+
+        pub unsound-at : {seen : Seen} {r : Walked} → first ≡ oneSeen seen → r ≡ Unsound → WalkElementMeets limits words element now r → NoneClaimed limits words claim seen
+        unsound-at begun unsound meets =
+            record { none = λ es b room. element-unsound (l .walked) of-slot (l .header .count-is) below (rw unsound at meets) es b (room-inside _ begun es room) }
+
+        pub next-walked : {more : Seen} {r : Walked} → r ≡ Whole more → WalkElementMeets limits words element now r
+            → InBlock limits words part claim first count (i + 1) next more
+        next-walked {more} whole meets =
+            let one : ElementWalked limits words element now more = rw whole at meets in
+            record {
+              can = l .can;
+              header = l .header;
+              many = l .many;
+              part-is = l .part-is;
+              at = omega arith;
+              met-few = passed-on .bounds .0;
+              within = one .within;
+              walked = walked-one of-slot (omega (arith, l .header .laid)) (l .walked) passed-on one;
+            }
+
+  -- all elements are walked
+  module _ {end : ℕ} {seen : Seen} (all : count ≤ i) (ends : end ≡ claim .code + 4 ^ claim .level) (begun : first ≡ oneSeen seen) where
+    pub too-long : end < pass .from → NoneClaimed limits words claim seen
+    too-long far = record { none = λ es b room. past-end (l .walked) (l .header) (omega (arith, l .at)) (omega (arith, block-ends)) es b }
+
+    pub block-whole : pass .from ≤ end → BlockWalked limits words claim seen now
+    block-whole within =
+        record {
+          found = l .walked .past;
+          at = whole (l .walked) (l .header) (omega (arith, l .at)) (l .many) (omega (arith, block-ends));
+          now-is = rw begun at (l .walked .now-is) ∙ seen-block seen claim (l .walked .past);
+          within = l .within;
         }

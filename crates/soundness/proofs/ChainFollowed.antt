@@ -5,11 +5,14 @@ use mathlib.Core.Path.{_≡_, refl, ap, subst, sym, _∙_}
 use mathlib.Core.List.{List, [], _∷_, _++_, append-assoc, append-nil}
 use lib.ListN.{length, getD, length-append}
 use Rattle.pktree.specs.Lists.{Every}
+use Rattle.measures.specs.Words.{firstFreeWord}
 use Rattle.measures.specs.declared.sizes.Layout.{Layout}
+use Rattle.measures.specs.Layout.{LayoutFits, SlotOffset}
 use Rattle.measures.specs.Slot.{slotPart, levelWord, nextWord}
+use Rattle.measures.proofs.SlotWrites.{slot-word}
 use Rattle.store.specs.FreeSlots.{noSlot, FreeChain, FreeSlots}
 use Rattle.store.proofs.Standing.{every-join}
-use Rattle.soundness.specs.Chain.{ChainOf, ChainEnds}
+use Rattle.soundness.specs.Chain.{ChainOf, ChainEnds, NoEnd}
 
 -- a chain from the slot that comes next
 pub record ChainLeft (layout : Layout) (words : List ℕ) (next : ℕ) (past free : List ℕ) : Type 0 where
@@ -27,7 +30,7 @@ pub record FollowedTo (layout : Layout) (words : List ℕ) (next count : ℕ) : 
   pub parts : (free : List ℕ) → ChainOf layout words free → ChainLeft layout words next past free
 
 module _ {layout : Layout} {words : List ℕ} where
-  pub followed-none : FollowedTo layout words (getD words 7 0) 0
+  pub followed-none : FollowedTo layout words (firstFreeWord words) 0
   followed-none =
       record {
         past = [];
@@ -38,15 +41,15 @@ module _ {layout : Layout} {words : List ℕ} where
       }
 
   module _ {next count : ℕ} (f : FollowedTo layout words next count) where
-    pub no-end : (next ≡ noSlot → ⊥) → (free : List ℕ) → ChainOf layout words free → suc count ≤ length free
-    no-end more free c = go (f .parts free c .left) (f .parts free c .is) (f .parts free c .chain)
+    more-left : (next ≡ noSlot → ⊥) → (free : List ℕ) → ChainOf layout words free → suc count ≤ length free
+    more-left more free c = go (f .parts free c .left) (f .parts free c .is) (f .parts free c .chain)
       where
         go : (left : List ℕ) → free ≡ f .past ++ left → FreeChain (layout .width) words next left → suc count ≤ length free
         go [] e h = absurd (more h)
         go (s ∷ left) e h = omega (arith, f .many, ap length e, length-append (f .past) (s ∷ left))
 
     -- the next slot of a chain that goes on is there and free
-    pub next-free : (next ≡ noSlot → ⊥) → (free : List ℕ) → ChainOf layout words free
+    next-free : (next ≡ noSlot → ⊥) → (free : List ℕ) → ChainOf layout words free
         → (next < layout .slots) × (levelWord (slotPart (layout .width) words next) ≡ 0)
     next-free more free c = go (f .parts free c .left) (f .parts free c .chain) (f .parts free c .inside)
       where
@@ -55,7 +58,7 @@ module _ {layout : Layout} {words : List ℕ} where
         go [] h p = absurd (more h)
         go (s ∷ left) h p = (omega arith, rw (h .0) (h .1))
 
-    pub followed-one : (next ≡ noSlot → ⊥) → next < layout .slots → levelWord (slotPart (layout .width) words next) ≡ 0
+    followed-one : (next ≡ noSlot → ⊥) → next < layout .slots → levelWord (slotPart (layout .width) words next) ≡ 0
         → FollowedTo layout words (nextWord (slotPart (layout .width) words next)) (count + 1)
     followed-one more below idle =
         record {
@@ -80,3 +83,24 @@ module _ {layout : Layout} {words : List ℕ} where
           many = f .many;
           few = few;
         }
+
+    -- where a chain goes on: its next slot is there and free, or no chain has an end
+    module _ (more : next ≡ noSlot → ⊥) where
+      pub no-end : layout .slots ≤ count → NoEnd layout words
+      no-end full = record { none = λ free is few. omega (arith, more-left more free is) }
+
+      module _ {slot : ℕ} (same : slot ≡ next) where
+        pub next-absent : layout .slots ≤ slot → NoEnd layout words
+        next-absent past = record { none = λ free is few. omega (arith, next-free more free is .0) }
+
+        module _ {at : ℕ} (offset : SlotOffset layout slot at) (fits : LayoutFits layout words) where
+          -- a word of its header
+          word : (i j : ℕ) → i ≡ at + j → j < 8 → getD (slotPart (layout .width) words next) j 0 ≡ getD words i 0
+          word i j e h = slot-word (layout .width) next words i j (omega (arith, rw same at (offset .is))) (omega (arith, fits .within .width-from))
+
+          pub next-taken : (getD words at 0 ≡ 0 → ⊥) → NoEnd layout words
+          next-taken taken = record { none = λ free is few. taken (sym (word at 0 (omega arith) (omega arith)) ∙ next-free more free is .1) }
+
+          pub next-followed : slot < layout .slots → getD words at 0 ≡ 0 → FollowedTo layout words (getD words (at + 3) 0) (count + 1)
+          next-followed below idle =
+              rw (← word (at + 3) 3 refl (omega arith)) (followed-one more (omega arith) (word at 0 (omega arith) (omega arith) ∙ idle))

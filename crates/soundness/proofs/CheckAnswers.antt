@@ -5,7 +5,7 @@ use mathlib.Core.Path.{_≡_, refl, ap, sym, _∙_}
 use mathlib.Core.Bool.{Bool, true, false}
 use mathlib.Core.List.{List, append-nil}
 use lib.Dec.{eqb}
-use lib.ListN.{length, getD}
+use lib.ListN.{length}
 use borrow.Author.Tests.{eqb-true, eqb-false}
 use Rattle.pktree.specs.Elements.{blockAt, empty}
 use Rattle.pktree.specs.Panel.{Panel}
@@ -14,18 +14,18 @@ use Rattle.pktree.proofs.Forests.{blockCount}
 use Rattle.pktree.proofs.Arranged.{LocallyRight}
 use Rattle.pktree.proofs.LocalTest.{localTest}
 use Rattle.pktree.proofs.Unlabelled.{labelled-tree}
+use Rattle.measures.specs.Words.{pixelsWord, firstFreeWord}
 use Rattle.measures.specs.Decides.{Decides}
 use Rattle.measures.specs.Sizes.{panelOf, sizesOf, slotCount, slotWidth, UsableStore}
 use Rattle.measures.specs.Layout.{layoutOf}
 use Rattle.store.specs.Placed.{Placed, slotsOf}
 use Rattle.store.specs.FreeSlots.{noSlot}
-use Rattle.store.specs.Sound.{Sound}
+use Rattle.store.specs.Sound.{Sound, IsSound}
 use Rattle.measures.proofs.Bounds.{slot-count-bounded}
 use Rattle.store.proofs.FreeChains.{one-chain}
 use Rattle.store.proofs.Standing.{depth, complete-slot, depth-below-level, every-right, every-join}
 use Rattle.soundness.specs.declared.walk.Seen.{Seen}
-use Rattle.soundness.specs.IsSound.{IsSound}
-use Rattle.soundness.specs.Chain.{ChainOf, ChainEnds}
+use Rattle.soundness.specs.Chain.{ChainOf, ChainEnds, NoEnd}
 use Rattle.soundness.specs.Walk.{BlockWalked, NoneClaimed}
 use Rattle.soundness.proofs.OneReading.{one-reading}
 use Rattle.soundness.proofs.SlotTotals.{shared-length, shared-of-length}
@@ -36,21 +36,20 @@ use Rattle.soundness.proofs.RootWalks.{rootClaim, noneSeen, rootLimits,
 module _ (words : List ℕ) where
   -- the walk finds the root of a sound store
   pub root-stands : NoneClaimed (rootLimits words) words (rootClaim (sizesOf words)) noneSeen → IsSound words → ⊥
-  root-stands none h = let r = sound-root words (h .placed) (h .sound) in none (r .es) (r .at) (r .room)
+  root-stands none h = let r = sound-root words (h .placed) (h .sound) in none .none (r .es) (r .at) (r .room)
 
   free-of : (placed : Placed) (sound : Sound words placed) → ChainOf (layoutOf (sizesOf words)) words (sound .free)
   free-of placed sound = record { chain = sound .chain; inside = every-right _ (slotsOf placed) (sound .free) (sound .shared .inside) }
 
   -- and its chain comes to an end
-  pub chain-stands : ((free : List ℕ) → ChainOf (layoutOf (sizesOf words)) words free → length free ≤ slotCount (getD words 2 0) (getD words 3 0) → ⊥)
-      → IsSound words → ⊥
-  chain-stands none h = none (h .sound .free) (free-of (h .placed) (h .sound)) (omega (arith, shared-length (h .sound .shared)))
+  pub chain-stands : NoEnd (layoutOf (sizesOf words)) words → IsSound words → ⊥
+  chain-stands none h = none .none (h .sound .free) (free-of (h .placed) (h .sound)) (omega (arith, shared-length (h .sound .shared)))
 
   -- what was walked and what was followed
   module _ {seen : Seen} {count : ℕ} (usable : UsableStore words) (w : BlockWalked (rootLimits words) words (rootClaim (sizesOf words)) noneSeen seen)
       (ends : ChainEnds (layoutOf (sizesOf words)) words count) where
     abbrev found : Placed
-    found = blockAt 0 (getD words 1 0) 0 (w .found) empty
+    found = blockAt 0 (sizesOf words .order) 0 (w .found) empty
 
     blocks-seen : seen .blocks ≡ blockCount found
     blocks-seen = omega (arith, ap (λ (s : Seen). s .blocks) (w .now-is))
@@ -58,18 +57,18 @@ module _ (words : List ℕ) where
     pixels-seen : seen .pixels ≡ length (pixels found)
     pixels-seen = omega (arith, ap (λ (s : Seen). s .pixels) (w .now-is))
 
-    few-slots : slotCount (getD words 2 0) (getD words 3 0) ≤ noSlot
+    few-slots : slotCount (sizesOf words .k) (sizesOf words .most) ≤ noSlot
     few-slots = omega (arith, slot-count-bounded (usable .valid))
 
     -- on a sound store they are its tree and its chain
-    pub numbers-agree : IsSound words → (seen .blocks + count ≡ slotCount (getD words 2 0) (getD words 3 0)) × (getD words 6 0 ≡ seen .pixels)
+    pub numbers-agree : IsSound words → (seen .blocks + count ≡ slotCount (sizesOf words .k) (sizesOf words .most)) × (pixelsWord words ≡ seen .pixels)
     numbers-agree h =
         let r = sound-root words (h .placed) (h .sound) in
-        let e : r .es ≡ w .found = one-reading (slotWidth (getD words 2 0)) words 0 (getD words 1 0) 0 (getD words 1 0) 0 (r .es) (w .found)
+        let e : r .es ≡ w .found = one-reading (slotWidth (sizesOf words .k)) words 0 (sizesOf words .order) 0 (sizesOf words .order) 0 (r .es) (w .found)
         (r .at .says) (r .at .elements .stands) (w .at .says) (w .at .elements .stands) in
-        let p : h .placed ≡ found = r .is ∙ ap (λ (t : Placed). blockAt 0 (getD words 1 0) 0 t empty) e in
+        let p : h .placed ≡ found = r .is ∙ ap (λ (t : Placed). blockAt 0 (sizesOf words .order) 0 t empty) e in
         let f = free-of (h .placed) (h .sound) in
-        let l : h .sound .free ≡ ends .free = one-chain (slotWidth (getD words 2 0)) words (slotCount (getD words 2 0) (getD words 3 0)) few-slots (getD words 7 0)
+        let l : h .sound .free ≡ ends .free = one-chain (slotWidth (sizesOf words .k)) words (slotCount (sizesOf words .k) (sizesOf words .most)) few-slots (firstFreeWord words)
         (h .sound .free) (ends .free) (f .inside) (ends .is .inside) (f .chain) (ends .is .chain) in (
           omega (
             arith,
@@ -84,10 +83,10 @@ module _ (words : List ℕ) where
         )
 
     -- where they agree, the store is sound
-    pub sound-where-agree : seen .blocks + count ≡ slotCount (getD words 2 0) (getD words 3 0) → getD words 6 0 ≡ seen .pixels → IsSound words
+    pub sound-where-agree : seen .blocks + count ≡ slotCount (sizesOf words .k) (sizesOf words .most) → pixelsWord words ≡ seen .pixels → IsSound words
     sound-where-agree all counted =
-        let k : ℕ = getD words 2 0 in
-        let order : ℕ = getD words 1 0 in
+        let k : ℕ = sizesOf words .k in
+        let order : ℕ = sizesOf words .order in
         let panel : Panel = panelOf (sizesOf words) in
         let valid = usable .valid .panel in
         let b = w .at in
@@ -107,7 +106,7 @@ module _ (words : List ℕ) where
             free = ends .free;
             chain = ends .is .chain;
             shared = shared-of-length
-                (root-slots-once (slotWidth k) words k order 0 (0 + 4 ^ order) 0 (slotCount k (getD words 3 0)) (getD words 7 0) es (ends .free) (valid .order-from) few-slots
+                (root-slots-once (slotWidth k) words k order 0 (0 + 4 ^ order) 0 (slotCount k (sizesOf words .most)) (firstFreeWord words) es (ends .free) (valid .order-from) few-slots
                 (b .says) (b .elements .stands) (right .arranged) (ends .is .inside) (ends .is .chain))
                 (every-join _ (slotsOf found) (ends .free) (omega arith, rw (append-nil (slotsOf es)) (b .elements .inside)) (ends .is .inside))
                 (omega (arith, blocks-seen, slots-are-blocks found, ends .many));
@@ -116,9 +115,9 @@ module _ (words : List ℕ) where
         }
 
     -- so the last two comparisons decide
-    pub decided-by-counts : seen .blocks + count ≡ slotCount (getD words 2 0) (getD words 3 0) → Decides (eqb (getD words 6 0) (seen .pixels)) (IsSound words)
-    decided-by-counts all = go (eqb (getD words 6 0) (seen .pixels)) refl
+    pub decided-by-counts : seen .blocks + count ≡ slotCount (sizesOf words .k) (sizesOf words .most) → Decides (eqb (pixelsWord words) (seen .pixels)) (IsSound words)
+    decided-by-counts all = go (eqb (pixelsWord words) (seen .pixels)) refl
       where
-        go : (t : Bool) → eqb (getD words 6 0) (seen .pixels) ≡ t → Decides t (IsSound words)
-        go true e = sound-where-agree all (eqb-true (getD words 6 0) (seen .pixels) e)
-        go false e = λ h. eqb-false (getD words 6 0) (seen .pixels) e (numbers-agree h .1)
+        go : (t : Bool) → eqb (pixelsWord words) (seen .pixels) ≡ t → Decides t (IsSound words)
+        go true e = sound-where-agree all (eqb-true (pixelsWord words) (seen .pixels) e)
+        go false e = λ h. eqb-false (pixelsWord words) (seen .pixels) e (numbers-agree h .1)

@@ -4,7 +4,7 @@ use native.Mathlib.Omega.{arith}
 use mathlib.Core.Path.{_≡_, ap, subst₂}
 use mathlib.Core.Bool.{true}
 use mathlib.Core.List.{List, append-nil}
-use lib.ListN.{length, getD}
+use lib.ListN.{length}
 use Rattle.pktree.specs.Elements.{ForestOf, blockAt, empty}
 use Rattle.pktree.specs.Tree.{pixels}
 use Rattle.pktree.proofs.Arranged.{LocallyRight}
@@ -58,7 +58,7 @@ pub of-words : {sizes : Sizes} {layout : Layout} (words : List ℕ) (P : Layout 
 of-words words P said laid = subst₂ P (layout-said words said laid) said
 
 pub slots-of-words : {sizes : Sizes} {layout : Layout} (words : List ℕ) → sizes ≡ sizesOf words → LaidOut sizes layout
-    → layout .slots ≡ slotCount (getD words 2 0) (getD words 3 0)
+    → layout .slots ≡ slotCount (sizesOf words .k) (sizesOf words .most)
 slots-of-words words said laid = ap (λ (l : Layout). l .slots) (layout-said words said laid)
 
 -- the test of a block of a level above 0
@@ -72,7 +72,7 @@ tested-exactly k level code es low pos =
 -- the root of a sound store is as claimed, and there is room for it
 pub record SoundRoot (words : List ℕ) (placed : Placed) : Type 0 where
   pub es : Placed
-  pub is : placed ≡ blockAt 0 (getD words 1 0) 0 es empty
+  pub is : placed ≡ blockAt 0 (sizesOf words .order) 0 es empty
   pub at : BlockAt (rootLimits words) words (rootClaim (sizesOf words)) es
   pub room : WithinLimits (rootLimits words) (seenWith noneSeen (claimed (rootClaim (sizesOf words)) es))
 
@@ -80,9 +80,9 @@ pub sound-root : (words : List ℕ) (placed : Placed) → Sound words placed →
 sound-root words placed sound =
     let (es, v) = sound-view words placed sound in
     let valid = sound .usable .valid .panel in
-    let k : ℕ = getD words 2 0 in
-    let t = tested-exactly k (getD words 1 0) 0 es (valid .order-from) (omega (arith, valid .k-from)) .1 (v .right) in
-    let b = both (slotTest k (getD words 1 0 - 1) 0 (heads es)) (insideTest k es) t in
+    let k : ℕ = sizesOf words .k in
+    let t = tested-exactly k (sizesOf words .order) 0 es (valid .order-from) (omega (arith, valid .k-from)) .1 (v .right) in
+    let b = both (slotTest k (sizesOf words .order - 1) 0 (heads es)) (insideTest k es) t in
     record {
       es = es;
       is = v .is;

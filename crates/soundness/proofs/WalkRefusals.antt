@@ -19,9 +19,8 @@ use Rattle.soundness.specs.declared.pass.Passing.the-variants.{Refused}
 use Rattle.soundness.specs.declared.walk.Claim.{Claim}
 use Rattle.soundness.specs.declared.walk.Limits.{Limits}
 use Rattle.soundness.specs.declared.walk.Seen.{Seen}
-use Rattle.soundness.specs.declared.walk.Walked.the-variants.{Broken}
 use Rattle.soundness.specs.Pass.{entryOf, PassMeets}
-use Rattle.soundness.specs.Walk.{WithinLimits, seenWith, StandsRight, BlockAt, Names, WalkElementMeets}
+use Rattle.soundness.specs.Walk.{WithinLimits, seenWith, StandsRight, BlockAt, Names, NoneNamed}
 use Rattle.soundness.proofs.ElementNames.{names-head}
 use Rattle.soundness.proofs.OneReading.{Begins, begins}
 use Rattle.soundness.proofs.RightParts.{right-parts}
@@ -93,12 +92,12 @@ module _ {limits : Limits} {words : List ℕ} {claim : Claim} {first : Seen} {i 
       let z : _≡_ {A = ℕ} 0 1 = cc (rw e at (p .goes (claim .code + 4 ^ suc (claim .level - 1)) (heads (x .rest))), x .passes) in
       omega arith
 
-  pub element-broken : {element : Element} {count : ℕ} → element ≡ elementAt (partOf limits words claim) i → countWord (partOf limits words claim) ≡ count → i < count
-      → WalkElementMeets limits words element now Broken → (es : Placed) → BlockAt limits words claim es
+  pub element-unsound : {element : Element} {count : ℕ} → element ≡ elementAt (partOf limits words claim) i → countWord (partOf limits words claim) ≡ count → i < count
+      → NoneNamed limits words element now → (es : Placed) → BlockAt limits words claim es
       → WithinLimits limits (seenWith first es) → ⊥
-  element-broken e n below p es b room =
+  element-unsound e n below p es b room =
       let x = next es b room (omega (arith, b .says .count-is)) in
-      p (x .one) (rw e (x .names)) (x .right) (x .room)
+      p .none (x .one) (rw e (x .names)) (x .right) (x .room)
 
   -- all elements are read
   module _ {count : ℕ} (opened : HeaderSays (partOf limits words claim) (claim .level) (claim .code) count) (all : i ≡ count) where

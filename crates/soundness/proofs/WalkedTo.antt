@@ -12,7 +12,7 @@ use Rattle.pktree.proofs.LocalTest.{heads, passTest, slotTest}
 use Rattle.pktree.proofs.Forests.{size-join}
 use Rattle.store.specs.declared.elements.Element.{Element}
 use Rattle.store.specs.Element.{elementAt}
-use Rattle.measures.specs.Slot.{slotPart, elementPart}
+use Rattle.measures.specs.Slot.{slotPart, elementPart, elementIndex}
 use Rattle.store.specs.Placed.{Placed}
 use Rattle.store.proofs.Standing.{elementWords}
 use Rattle.store.proofs.PlacedJoin.{words-join}
@@ -60,7 +60,7 @@ module _ {limits : Limits} {words : List ℕ} {claim : Claim} {first : Seen} whe
   walked-none = record { past = empty; many = refl; names = refl; right = right-nothing; passed = λ rest. refl; now-is = seen-none first }
 
   pub walked-one : {i : ℕ} {pass next : Pass} {now more : Seen} {element : Element} → element ≡ elementAt (partOf limits words claim) i
-      → 8 + 2 * i + 2 ≤ length (partOf limits words claim) → WalkedTo limits words claim first i pass now
+      → elementIndex i + 2 ≤ length (partOf limits words claim) → WalkedTo limits words claim first i pass now
       → PassMeets (limits .k) (claim .level - 1) pass (entryOf element) (On next) → ElementWalked limits words element now more
       → WalkedTo limits words claim first (i + 1) next more
   walked-one {i} {element = element} e laid w p x =
@@ -69,10 +69,10 @@ module _ {limits : Limits} {words : List ℕ} {claim : Claim} {first : Seen} whe
       let one : Placed = x .found in
       let n : ℕ = 2 * size old in
       let m : 2 * size (old ⧺ one) ≡ n + 2 = omega (arith, size-join old one, names-one element one (x .names)) in
-      let at : 8 + n ≡ 8 + 2 * i = omega (arith, w .many) in
+      let at : 8 + n ≡ elementIndex i = omega (arith, w .many) in
       let said : Names (elementAt part i) one = rw e at (x .names) in
       let own : take 2 (drop n (elementPart part)) ≡ elementWords one =
-      ap (take 2) (drop-drop n 8 part ∙ ap (λ (j : ℕ). drop j part) at) ∙ two-words part (8 + 2 * i) laid ∙ sym (names-words _ _ one said) in
+      ap (take 2) (drop-drop n 8 part ∙ ap (λ (j : ℕ). drop j part) at) ∙ two-words part (elementIndex i) laid ∙ sym (names-words _ _ one said) in
       record {
         past = old ⧺ one;
         many = omega (arith, w .many, size-join old one, names-one element one (x .names));

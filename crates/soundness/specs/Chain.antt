@@ -20,7 +20,11 @@ pub record ChainEnds (layout : Layout) (words : List ℕ) (count : ℕ) : Type 0
   pub many : length free ≡ count
   pub few : count ≤ layout .slots
 
--- the number of its slots, or it has no end among as many slots as there are
+-- it has no end among as many slots as there are
+pub record NoEnd (layout : Layout) (words : List ℕ) : Type 0 where
+  pub none : (free : List ℕ) → ChainOf layout words free → length free ≤ layout .slots → ⊥
+
+-- the number of its slots, or it has no end
 abbrev pub ChainMeets : Layout → List ℕ → Chain → Type 0
 ChainMeets layout words (Ends count) = ChainEnds layout words count
-ChainMeets layout words Broken = (free : List ℕ) → ChainOf layout words free → length free ≤ layout .slots → ⊥
+ChainMeets layout words Broken = NoEnd layout words

@@ -1,4 +1,3 @@
-pub mod IsSound
 pub mod Chain
 pub mod Pass
 pub mod Walk

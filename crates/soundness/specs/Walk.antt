@@ -22,7 +22,7 @@ use Rattle.soundness.specs.declared.walk.Claim.{Claim}
 use Rattle.soundness.specs.declared.walk.Limits.{Limits}
 use Rattle.soundness.specs.declared.walk.Seen.{Seen}
 use Rattle.soundness.specs.declared.walk.Walked.{Walked}
-use Rattle.soundness.specs.declared.walk.Walked.the-variants.{Whole, Broken}
+use Rattle.soundness.specs.declared.walk.Walked.the-variants.{Whole, Unsound}
 use Rattle.soundness.specs.Pass.{entryOf}
 
 -- what every part of the walk may rely on, on any words
@@ -65,8 +65,8 @@ abbrev pub claimed : Claim → Placed → Placed
 claimed claim es = blockAt (claim .slot) (claim .level) (claim .code) es empty
 
 -- no block is as claimed for whose blocks and pixels there is room
-abbrev pub NoneClaimed : Limits → List ℕ → Claim → Seen → Type 0
-NoneClaimed limits words claim seen = (es : Placed) → BlockAt limits words claim es → WithinLimits limits (seenWith seen (claimed claim es)) → ⊥
+pub record NoneClaimed (limits : Limits) (words : List ℕ) (claim : Claim) (seen : Seen) : Type 0 where
+  pub none : (es : Placed) → BlockAt limits words claim es → WithinLimits limits (seenWith seen (claimed claim es)) → ⊥
 
 pub record BlockOpened (limits : Limits) (words : List ℕ) (claim : Claim) (seen : Seen) (count : ℕ) : Type 0 where
   pub header : HeaderSays (slotPart (limits .layout .width) words (claim .slot)) (claim .level) (claim .code) count
@@ -86,12 +86,12 @@ pub record BlockWalked (limits : Limits) (words : List ℕ) (claim : Claim) (see
 -- the numbers with those of the block that is as claimed, or there is none
 abbrev pub WalkMeets : Limits → List ℕ → Claim → Seen → Walked → Type 0
 WalkMeets limits words claim seen (Whole now) = BlockWalked limits words claim seen now
-WalkMeets limits words claim seen Broken = NoneClaimed limits words claim seen
+WalkMeets limits words claim seen Unsound = NoneClaimed limits words claim seen
 
 -- the numbers with one pixel more, or N are there already
 abbrev pub PixelMeets : Limits → Seen → Walked → Type 0
 PixelMeets limits seen (Whole now) = (now ≡ record { blocks = seen .blocks; pixels = seen .pixels + 1 }) × WithinLimits limits now
-PixelMeets limits seen Broken = limits .most ≤ seen .pixels
+PixelMeets limits seen Unsound = limits .most ≤ seen .pixels
 
 -- the words of an element name this one
 abbrev pub Names : Element → Placed → Type 0
@@ -111,7 +111,10 @@ pub record ElementWalked (limits : Limits) (words : List ℕ) (element : Element
   pub now-is : now ≡ seenWith seen found
   pub within : WithinLimits limits now
 
+-- the words name no element that is right and for which there is room
+pub record NoneNamed (limits : Limits) (words : List ℕ) (element : Element) (seen : Seen) : Type 0 where
+  pub none : (t : Placed) → Names element t → StandsRight limits words t → WithinLimits limits (seenWith seen t) → ⊥
+
 abbrev pub WalkElementMeets : Limits → List ℕ → Element → Seen → Walked → Type 0
 WalkElementMeets limits words element seen (Whole now) = ElementWalked limits words element seen now
-WalkElementMeets limits words element seen Broken =
-    (t : Placed) → Names element t → StandsRight limits words t → WithinLimits limits (seenWith seen t) → ⊥
+WalkElementMeets limits words element seen Unsound = NoneNamed limits words element seen

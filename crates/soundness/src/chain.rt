@@ -1,8 +1,10 @@
 ghost use Rattle.measures.specs.Layout.{LayoutFits};
 ghost use Rattle.soundness.specs.Chain.{ChainMeets};
 use measures::sizes::Layout;
+use measures::slots::NEXT;
 use measures::slots::offset;
 use measures::slots::wide;
+use measures::words::FIRST_FREE;
 
 // The end of the chain of free slots.
 const NO_SLOT: u32 = 0xFFFFFFFF;
@@ -17,20 +19,21 @@ pub fn count_free(store: &[u32], layout: Layout) -> Chain
     requires { ⌜ LayoutFits layout (now store) ⌝ }
     ensures { λ r. ⌜ ChainMeets layout (now (store .entry)) r ⌝ }
 {
-    let mut next = store[7];
+    let mut next = store[FIRST_FREE];
     let mut count: usize = 0;
     while next != NO_SLOT {
         if layout.slots <= count {
             return Chain::Broken;
         }
-        if layout.slots <= wide(next) {
+        let slot = wide(next);
+        if layout.slots <= slot {
             return Chain::Broken;
         }
-        let at = offset(layout, wide(next));
+        let at = offset(layout, slot);
         if store[at] != 0 {
             return Chain::Broken;
         }
-        next = store[at + 3];
+        next = store[at + NEXT];
         count += 1;
     }
     Chain::Ends(count)

@@ -2,7 +2,7 @@
 ghost use mathlib.Core.Path.{_≡_};
 ghost use Rattle.measures.specs.Decides.{Decides};
 ghost use Rattle.measures.specs.Sizes.{UsableStore, sizesOf};
-ghost use Rattle.soundness.specs.IsSound.{IsSound};
+ghost use Rattle.store.specs.Sound.{IsSound};
 use crate::chain::Chain;
 use crate::chain::count_free;
 use crate::walk::Claim;
@@ -13,6 +13,7 @@ use crate::walk::walk_block;
 use measures::sizes::Sizes;
 use measures::sizes::layout_of;
 use measures::slots::wide;
+use measures::words::PIXELS;
 
 mod chain;
 mod pass;
@@ -48,5 +49,5 @@ pub fn is_sound(store: &[u32], sizes: Sizes) -> bool
     if wide(seen.blocks) + free != layout.slots {
         return false;
     }
-    store[6] == seen.pixels
+    store[PIXELS] == seen.pixels
 }

@@ -25,9 +25,10 @@ pub struct Seen {
     pub pixels: u32,
 }
 
+// All that was seen, or the words are no register's: a word is not as it must be.
 pub enum Walked {
     Whole(Seen),
-    Broken,
+    Unsound,
 }
 
 // A block as it is to be: in this slot, of this level and code, with at least so many elements.
@@ -63,7 +64,7 @@ pub fn walk_block(store: &[u32], limits: Limits, claim: Claim, seen: Seen) -> Wa
     ensures { λ r. ⌜ WalkMeets limits (now (store .entry)) claim seen r ⌝ }
 {
     let Opening::Elements(count) = open_block(store, limits, claim, seen) else {
-        return Walked::Broken;
+        return Walked::Unsound;
     };
     let part = slot_part(store, limits.layout, claim.slot);
     let quarters = claim.level - 1;
@@ -76,17 +77,17 @@ pub fn walk_block(store: &[u32], limits: Limits, claim: Claim, seen: Seen) -> Wa
     while i < count {
         let element = element_at(part, i);
         let Passing::On(next) = pass_element(pass, limits.k, quarters, element) else {
-            return Walked::Broken;
+            return Walked::Unsound;
         };
         let Walked::Whole(more) = walk_element(store, limits, element, claim.level, seen_now) else {
-            return Walked::Broken;
+            return Walked::Unsound;
         };
         pass = next;
         seen_now = more;
         i += 1;
     }
     if block_end(claim.level, claim.code) < pass.from {
-        return Walked::Broken;
+        return Walked::Unsound;
     }
     Walked::Whole(seen_now)
 }
@@ -97,7 +98,7 @@ fn see_pixel(limits: Limits, seen: Seen) -> Walked
     ensures { λ r. ⌜ PixelMeets limits seen r ⌝ }
 {
     if limits.most <= seen.pixels {
-        return Walked::Broken;
+        return Walked::Unsound;
     }
     Walked::Whole(Seen {
         blocks: seen.blocks,
@@ -119,13 +120,14 @@ fn walk_element(store: &[u32], limits: Limits, element: Element, level: u32, see
             code,
         } => {
             if inner < 1 {
-                return Walked::Broken;
+                return Walked::Unsound;
             }
-            if layout.slots <= wide(slot) {
-                return Walked::Broken;
+            let at = wide(slot);
+            if layout.slots <= at {
+                return Walked::Unsound;
             }
             let claim = Claim {
-                slot: wide(slot),
+                slot: at,
                 level: inner,
                 code,
                 least: limits.k,

@@ -2,10 +2,9 @@
 use Prim.Native.Nat.{ℕ, _+_, _*_}
 use native.Mathlib.Omega.{arith}
 use mathlib.Core.Path.{_≡_, ap, ap₂, sym, _∙_}
-use mathlib.Core.List.{List, _∷_, _++_}
+use mathlib.Core.List.{List, _++_}
 use lib.ListN.{take, drop}
 use lib.Seq.{take-at, drop-at, drop-drop}
-use Rattle.store.specs.Element.{tagSlots}
 use Rattle.pktree.specs.Elements.{size, _⧺_, blockAt}
 use Rattle.store.specs.Placed.{Placed}
 use Rattle.store.proofs.Standing.{elementWords}
@@ -16,7 +15,7 @@ module _ (a m b : Placed) where
   words : elementWords (a ⧺ (m ⧺ b)) ≡ elementWords a ++ (elementWords m ++ elementWords b)
   words = words-join a (m ⧺ b) ∙ ap (λ (l : List ℕ). elementWords a ++ l) (words-join m b)
 
-  pub front-words : (n : ℕ) → size a ≡ n → take (2 * n) (elementWords (a ⧺ (m ⧺ b))) ≡ elementWords a
+  front-words : (n : ℕ) → size a ≡ n → take (2 * n) (elementWords (a ⧺ (m ⧺ b))) ≡ elementWords a
   front-words n e = ap (take (2 * n)) words ∙ take-at (elementWords a) (elementWords m ++ elementWords b) (2 * n) (length-element-words a ∙ ap (λ (i : ℕ). 2 * i) e)
 
   behind : (n : ℕ) → size a ≡ n → drop (2 * n) (elementWords (a ⧺ (m ⧺ b))) ≡ elementWords m ++ elementWords b
@@ -25,7 +24,7 @@ module _ (a m b : Placed) where
   pub middle-words : (n r : ℕ) → size a ≡ n → size m ≡ r → runWords (elementWords (a ⧺ (m ⧺ b))) n r ≡ elementWords m
   middle-words n r e f = ap (take (2 * r)) (behind n e) ∙ take-at (elementWords m) (elementWords b) (2 * r) (length-element-words m ∙ ap (λ (i : ℕ). 2 * i) f)
 
-  pub back-words : (n r : ℕ) → size a ≡ n → size m ≡ r → drop (2 * (n + r)) (elementWords (a ⧺ (m ⧺ b))) ≡ elementWords b
+  back-words : (n r : ℕ) → size a ≡ n → size m ≡ r → drop (2 * (n + r)) (elementWords (a ⧺ (m ⧺ b))) ≡ elementWords b
   back-words n r e f =
       let q : 2 * (n + r) ≡ 2 * n + 2 * r = omega arith in
       rw q (sym (drop-drop (2 * r) (2 * n) (elementWords (a ⧺ (m ⧺ b)))) ∙ ap (drop (2 * r)) (behind n e)
@@ -41,9 +40,4 @@ module _ (a m b : Placed) where
   pub block-words : (s i c n r : ℕ) → size a ≡ n → size m ≡ r
       → withBlock (elementWords (a ⧺ (m ⧺ b))) n r (blockWords s i c) ≡ elementWords (a ⧺ blockAt s i c m b)
   block-words s i c n r e f =
-      let q : 1 + s + i * tagSlots ≡ 1 + (s + i * tagSlots) = omega arith in
-      let z : blockWords s i c ++ elementWords b ≡ elementWords (blockAt s i c m b) = ap (λ (t : ℕ). c ∷ t ∷ elementWords b) (q ∙ one (s + i * tagSlots)) in
-      ap₂ _++_ (front-words n e) (ap (λ (l : List ℕ). blockWords s i c ++ l) (back-words n r e f) ∙ z) ∙ sym (words-join a (blockAt s i c m b))
-    where
-      one : (t : ℕ) → 1 + t ≡ Prim.Native.Nat.suc t
-      one t = omega arith
+      ap₂ _++_ (front-words n e) (ap (λ (l : List ℕ). blockWords s i c ++ l) (back-words n r e f)) ∙ sym (words-join a (blockAt s i c m b))

@@ -4,12 +4,13 @@ use native.Mathlib.Omega.{arith}
 use mathlib.Core.Path.{_≡_, refl, ap, subst, sym, _∙_}
 use mathlib.Core.Logic.{_⊎_, inl, inr}
 use mathlib.Core.List.{List, [], _∷_}
-use lib.ListN.{getD, take, set}
+use lib.ListN.{take, set}
 use lib.Seq.{take-set-le, take-take}
 use Rattle.store.specs.Element.{tagSlots}
 use Rattle.pktree.specs.Elements.{size}
 use Rattle.pktree.proofs.Alignment.{blockCode}
 use Rattle.pktree.proofs.Absurd.{zero-is-not-one}
+use Rattle.measures.specs.Words.{firstFreeWord}
 use Rattle.measures.specs.declared.sizes.Layout.{Layout}
 use Rattle.measures.specs.Layout.{LayoutFits}
 use Rattle.measures.specs.Slot.{OnlySlot}
@@ -18,12 +19,15 @@ use Rattle.measures.proofs.SlotWrites.{take-less}
 use Rattle.descent.specs.Way.{Frame}
 use Rattle.rewrite.specs.declared.Forming.the-variants.{NoSlot}
 use Rattle.rewrite.specs.Rewrite.{HandedUpBlock, BlockFormed, FormMeets}
-use Rattle.change.proofs.RunLaw.{FormedAt}
-use Rattle.change.proofs.Pending.{Setting, Laid}
-use Rattle.change.proofs.Completed.{Completed}
 use Rattle.step.specs.declared.Stepped.the-variants.{Up}
+use Rattle.ascent.proofs.Frames.{FramesRight}
+use Rattle.ascent.proofs.FormedAt.{FormedAt}
+use Rattle.ascent.proofs.Pending.{Setting, Laid}
+use Rattle.ascent.proofs.Completed.{Completed}
 use Rattle.step.specs.Step.{Kept, SteppedRight}
-use Rattle.step.proofs.StepLaws.{up-with-block, formed-size, never-without-slot, at-rest-with-block}
+use Rattle.step.proofs.Formed.{formedAs, formed-size}
+use Rattle.step.proofs.Underfull.{up-with-block}
+use Rattle.step.proofs.FormedAtRest.{never-without-slot, at-rest-with-block}
 
 pub kept-same : (layout : Layout) (before after : List ℕ) → after ≡ before → Kept layout before after
 kept-same layout before after e = rw e (record { long = refl; head = refl; past = refl })
@@ -38,11 +42,11 @@ pub front-kept : (v : ℕ) (before after : List ℕ) → take 8 after ≡ set (t
 front-kept v before after e =
     sym (take-take 6 8 after (omega arith)) ∙ ap (take 6) e ∙ take-set-le 6 (take 8 before) 7 v (omega arith) ∙ take-take 6 8 before (omega arith)
 
-module _ (σ : Setting) (layout : Layout) (before after : List ℕ) (way : List Frame) (slot outer code : ℕ) (es : Placed) (free : List ℕ) (j first n d : ℕ)
+module _ {σ : Setting} {layout : Layout} {before : List ℕ} {way : List Frame} {slot outer code : ℕ} {es : Placed} {free : List ℕ} {j first n d : ℕ}
     (layout-is : layout ≡ σ .layout) (d-is : d ≡ blockCode j (σ .x)) (h : Laid σ before way slot outer code es free) (g : FormedAt (σ .k) outer code (σ .x) j first n es) where
-  pub regrouped-up : (scratch scratch′ : List ℕ) (r : ℕ) → (way ≡ [] → ⊥) → slot < tagSlots → r < σ .k → HandedUpBlock layout slot j d first n before after scratch scratch′ r
+  pub regrouped-up : {after scratch scratch′ : List ℕ} {r : ℕ} → (way ≡ [] → ⊥) → slot < tagSlots → r < σ .k → HandedUpBlock layout slot j d first n before after scratch scratch′ r
       → SteppedRight σ after scratch′ way slot (Up r)
-  regrouped-up scratch scratch′ r some small few u = go way refl h
+  regrouped-up {after} {scratch} {scratch′} {r} some small few u = go way refl h
     where
       u′ : HandedUpBlock (σ .layout) slot j (blockCode j (σ .x)) first n before after scratch scratch′ r
       u′ = subst (λ (c : ℕ). HandedUpBlock (σ .layout) slot j c first n before after scratch scratch′ r) d-is
@@ -50,26 +54,26 @@ module _ (σ : Setting) (layout : Layout) (before after : List ℕ) (way : List 
 
       go : (w : List Frame) → way ≡ w → Laid σ before w slot outer code es free → SteppedRight σ after scratch′ w slot (Up r)
       go [] e l = absurd (some e)
-      go (f ∷ w) e l = up-with-block σ before f w slot outer code es free l after scratch scratch′ j first n r g small (omega (arith, u′ .rest-is, l .says .count-is)) u′
+      go (f ∷ w) e l = up-with-block l g small (omega (arith, u′ .rest-is, l .says .count-is)) u′
 
   -- the block around has its elements, as the root or because k are left
-  enough-left : (way ≡ []) ⊎ (σ .k + n ≤ size es + 1) → (t : ℕ)
-      → (outer ≡ σ .m) ⊎ (σ .k ≤ size (Rattle.step.proofs.StepLaws.formedAs σ before way slot outer code es free h j first n g t))
-  enough-left (inl e) t = inl (root way e (h .around .frames-right))
-    where
-      root : (w : List Frame) → w ≡ [] → Rattle.change.proofs.Frames.FramesRight (σ .k) (σ .m) w outer code → outer ≡ σ .m
-      root [] e r = r .0
-      root (f ∷ w) e r = zero-is-not-one (cc)
-  enough-left (inr e) t = inr (omega (arith, formed-size σ before way slot outer code es free h j first n g t))
+  module _ (enough : (way ≡ []) ⊎ (σ .k + n ≤ size es + 1)) where
+    enough-left : (t : ℕ) → (outer ≡ σ .m) ⊎ (σ .k ≤ size (formedAs g t))
+    enough-left t = go enough
+      where
+        root : (w : List Frame) → w ≡ [] → FramesRight (σ .k) (σ .m) w outer code → outer ≡ σ .m
+        root [] e r = r .0
+        root (f ∷ w) e r = zero-is-not-one (cc)
 
-  pub regrouped-done : LayoutFits layout before → (way ≡ []) ⊎ (σ .k + n ≤ size es + 1) → BlockFormed layout slot j d first n (getD before 7 0) before after → Completed σ after
-  regrouped-done fits enough u =
-      at-rest-with-block σ before way slot outer code es free h j first n g (getD before 7 0) after (subst (λ (l : Layout). LayoutFits l before) layout-is fits)
-      (enough-left enough (getD before 7 0))
-      (subst (λ (c : ℕ). BlockFormed (σ .layout) slot j c first n (getD before 7 0) before after) d-is
-      (subst (λ (l : Layout). BlockFormed l slot j d first n (getD before 7 0) before after) layout-is u))
+        go : (way ≡ []) ⊎ (σ .k + n ≤ size es + 1) → (outer ≡ σ .m) ⊎ (σ .k ≤ size (formedAs g t))
+        go (inl e) = inl (root way e (h .around .frames-right))
+        go (inr e) = inr (omega (arith, formed-size g t))
 
-  pub never-without : (way ≡ []) ⊎ (σ .k + n ≤ size es + 1) → FormMeets layout slot j d first n before after NoSlot → ⊥
-  never-without enough u =
-      never-without-slot σ before way slot outer code es free h j first n g after (enough-left enough 0)
-      (subst (λ (l : Layout). FormMeets l slot j d first n before after NoSlot) layout-is u)
+    pub regrouped-done : {after : List ℕ} → LayoutFits layout before → BlockFormed layout slot j d first n (firstFreeWord before) before after → Completed σ after
+    regrouped-done {after} fits u =
+        at-rest-with-block h g (subst (λ (l : Layout). LayoutFits l before) layout-is fits) (enough-left (firstFreeWord before))
+        (subst (λ (c : ℕ). BlockFormed (σ .layout) slot j c first n (firstFreeWord before) before after) d-is
+        (subst (λ (l : Layout). BlockFormed l slot j d first n (firstFreeWord before) before after) layout-is u))
+
+    pub never-without : {after : List ℕ} → FormMeets layout slot j d first n before after NoSlot → ⊥
+    never-without {after} u = never-without-slot h g (enough-left 0) (subst (λ (l : Layout). FormMeets l slot j d first n before after NoSlot) layout-is u)

@@ -1,5 +1,5 @@
 -- How a step of a change ends: after the splice the elements lie in the slot, and they are right, or a run of them is to be a block.
-use Prim.Native.Nat.{ℕ, zero, suc, _+_, _*_, _≤_, _<_}
+use Prim.Native.Nat.{ℕ, zero, suc, _≤_, _<_}
 use native.Mathlib.Omega.{arith}
 use mathlib.Core.Path.{_≡_, refl, ap, subst, sym, _∙_}
 use mathlib.Core.Logic.{_⊎_, inl, inr}
@@ -11,28 +11,31 @@ use Rattle.pktree.specs.Elements.{size, _⧺_}
 use Rattle.pktree.proofs.Arranged.{LocallyRight}
 use Rattle.measures.specs.declared.sizes.Layout.{Layout}
 use Rattle.measures.specs.Layout.{LayoutFits, storeEnd}
-use Rattle.measures.specs.Slot.{slotPart, levelWord, countWord}
+use Rattle.measures.specs.Slot.{slotPart, levelWord, countWord, elementIndex}
 use Rattle.store.specs.Splice.{CanSplice}
 use Rattle.store.specs.FreeSlots.{Released}
 use Rattle.store.specs.Placed.{Placed}
 use Rattle.measures.proofs.Usable.{slot-long}
 use Rattle.descent.specs.Way.{Frame}
-use Rattle.runs.specs.declared.Run.{Run}
-use Rattle.runs.specs.declared.Run.the-variants.{Formed, Nothing}
-use Rattle.runs.specs.Run.{Counted, RunFormed, RunMeets, AscendingCodes}
+use Rattle.runs.specs.declared.RunFound.{RunFound}
+use Rattle.runs.specs.declared.RunFound.the-variants.{Formed, Nothing}
+use Rattle.runs.specs.Run.{ElementsLaid, RunFormed, RunMeets, AscendingCodes}
 use Rattle.runs.proofs.SlotCodes.{slot-ascends}
 use Rattle.rewrite.specs.Rewrite.{CanHandUp, HandedUpAll}
-use Rattle.change.proofs.Frames.{FramesRight, frames-level}
-use Rattle.change.proofs.Pending.{Setting, widthIn, Laid}
-use Rattle.change.proofs.RunLaw.{FormedAt, formed-by}
-use Rattle.change.proofs.Completed.{Completed}
 use Rattle.step.specs.declared.Change.{Change}
 use Rattle.step.specs.declared.Placing.the-variants as placing
 use Rattle.step.specs.declared.Stepped.{Stepped}
 use Rattle.step.specs.declared.Stepped.the-variants.{Done, Up, Damaged}
-use Rattle.step.specs.Step.{Kept, CanPut, PutMeets, InSetting, SteppedRight, UpTo16, CanRegroup, RegroupMeets, UnderfullMeets, StepMeets}
+use Rattle.ascent.proofs.Frames.{FramesRight}
+use Rattle.ascent.proofs.Pending.{Setting, widthIn, Laid}
+use Rattle.ascent.proofs.FormedAt.{FormedAt}
+use Rattle.ascent.proofs.Completed.{Completed}
+use Rattle.step.specs.Step.{mostHandedUp, Kept, CanPut, PutMeets, InSetting, SteppedRight, FewHandedUp, CanRegroup, RegroupMeets, UnderfullMeets, StepMeets}
+use Rattle.ascent.proofs.Frames.{frames-level}
+use Rattle.ascent.proofs.RunLaw.{formed-by}
 use Rattle.step.proofs.RegroupEnds.{kept-same, kept-but-slot, front-kept}
-use Rattle.step.proofs.StepLaws.{can-splice, laid-by-splice, right-as-it-is, done-as-it-is, up-with-all}
+use Rattle.step.proofs.Laid.{can-splice, laid-by-splice, right-as-it-is, done-as-it-is}
+use Rattle.step.proofs.Underfull.{up-with-all}
 
 -- what a release, and one change after another, keep
 kept-by-release : {layout : Layout} {slot : ℕ} {before after : List ℕ} → slot < layout .slots → Released (layout .width) slot before after → Kept layout before after
@@ -58,20 +61,20 @@ module _ {layout : Layout} {slot place removed inserted count : ℕ} {before mid
       sym (getD-take 8 (slotPart (layout .width) mid slot) 2 0 (omega arith)) ∙ ap (λ (l : List ℕ). getD l 2 0) (r .2 .spliced .header)
       ∙ getD-set-same (take 8 part) 2 _ 0 (omega (arith, length-take-le 8 part (omega (arith, r .1 .laid)))) ∙ sym (r .0)
 
-  room-then : 8 + 2 * count ≤ layout .width
+  room-then : elementIndex count ≤ layout .width
   room-then = omega (arith, r .0, r .1 .room, slot-long layout before slot (can .fits) (can .slot-below))
 
   -- the part that the search is lent
   pub level-there : {part : List ℕ} → part ≡ slotPart (layout .width) mid slot → 0 < length part
   level-there lent = rw lent (omega (arith, slot-long layout mid slot fits-then (can .slot-below), can .fits .within .width-from))
 
-  pub can-search : {part : List ℕ} → part ≡ slotPart (layout .width) mid slot → Counted part count
+  pub can-search : {part : List ℕ} → part ≡ slotPart (layout .width) mid slot → ElementsLaid part count
   can-search lent =
       rw lent
       (record { laid = omega (arith, room-then, slot-long layout mid slot fits-then (can .slot-below)); few = omega (arith, room-then, can .fits .within .width-to) })
 
-  -- fewer than 16 have room in the scratch words
-  pub can-hand-up : count < 16 → CanHandUp layout mid slot 0 0 0 scratch
+  -- so few have room in the scratch words
+  pub can-hand-up : count < mostHandedUp → CanHandUp layout mid slot 0 0 0 scratch
   can-hand-up few =
       record {
         cut = record { fits = fits-then; slot-below = can .slot-below; level-to = omega arith; laid = rw count-then room-then; within = omega arith };
@@ -95,7 +98,7 @@ can-regroup can put low k-from k-to run = record {
 }
 
 -- what was found, by other names of the same
-found-in : {part part′ : List ℕ} {count count′ level level′ k k′ x x′ : ℕ} (r : Run) → part ≡ part′ → count ≡ count′ → level ≡ level′ → k ≡ k′ → x ≡ x′
+found-in : {part part′ : List ℕ} {count count′ level level′ k k′ x x′ : ℕ} (r : RunFound) → part ≡ part′ → count ≡ count′ → level ≡ level′ → k ≡ k′ → x ≡ x′
     → RunMeets part count level k x r → RunMeets part′ count′ level′ k′ x′ r
 found-in r p c l k x h = rw (p, c, l, k, x) at h
 
@@ -118,26 +121,25 @@ module _ {change : Change} {root : Bool} {σ : Setting} {way : List Frame} {slot
   ascends = slot-ascends (slotPart (widthIn σ) words slot) level code es (σ .k) _ _ _ (h .says) (h .around .disturbed .arranged)
 
 -- so the run is the block to be formed
-run-formed : (σ : Setting) (words : List ℕ) (way : List Frame) (s level code : ℕ) (es : Placed) (free : List ℕ) (j first n : ℕ) → Laid σ words way s level code es free
+run-formed : {σ : Setting} {words : List ℕ} {way : List Frame} {s : ℕ} (level : ℕ) {code : ℕ} {es : Placed} {free : List ℕ} {j first n : ℕ} → Laid σ words way s level code es free
     → AscendingCodes (slotPart (widthIn σ) words s) (size es) → RunFormed (slotPart (widthIn σ) words s) (size es) level (σ .k) (σ .x) j first n
     → FormedAt (σ .k) level code (σ .x) j first n es
-run-formed σ words way s zero code es free j first n h up r = absurd (omega (arith, h .around .level-from))
-run-formed σ words way s (suc l) code es free j first n h up r =
+run-formed zero h up r = absurd (omega (arith, h .around .level-from))
+run-formed {σ} {words} {s = s} (suc l) {code} {es} {j = j} {first = first} {n = n} h up r =
     formed-by (σ .k) l code (σ .x) (slotPart (widthIn σ) words s) es (σ .k-from) (h .says) (h .around .disturbed) j first n (r .low) (r .within) (r .many) (r .right up)
 
 -- the block is the root, or has k elements
-enough : (σ : Setting) (change : Change) (root : Bool) (way : List Frame) (level code n : ℕ) → InSetting σ change root way → FramesRight (σ .k) (σ .m) way level code
+enough : {σ : Setting} {change : Change} {root : Bool} {way : List Frame} {level : ℕ} (code : ℕ) {n : ℕ} → InSetting σ change root way → FramesRight (σ .k) (σ .m) way level code
     → (root ≡ true) ⊎ (change .k ≤ n) → (level ≡ σ .m) ⊎ (σ .k ≤ n)
-enough σ change root way level code n i f (inl e) = inl (subst (λ (w : List Frame). FramesRight (σ .k) (σ .m) w level code) (i .root-is .0 e) f .0)
-enough σ change root way level code n i f (inr h) = inr (omega (arith, i .k-is))
+enough {σ} {level = level} code i f (inl e) = inl (subst (λ (w : List Frame). FramesRight (σ .k) (σ .m) w level code) (i .root-is .0 e) f .0)
+enough code i f (inr h) = inr (omega (arith, i .k-is))
 
 -- below the root an underfull block hands all up
-up-below-root : (σ : Setting) (words : List ℕ) (way : List Frame) (s level code : ℕ) (es : Placed) (free after scratch scratch′ : List ℕ) (n : ℕ) → (way ≡ [] → ⊥)
+up-below-root : {σ : Setting} {words : List ℕ} (way : List Frame) {s level code : ℕ} {es : Placed} {free after scratch scratch′ : List ℕ} {n : ℕ} → (way ≡ [] → ⊥)
     → Laid σ words way s level code es free → LocallyRight (σ .k) level code es → size es < σ .k
     → HandedUpAll (σ .layout) s words after scratch scratch′ n → SteppedRight σ after scratch′ way s (Up n)
-up-below-root σ words [] s level code es free after scratch scratch′ n ne h right few u = ne refl
-up-below-root σ words (f ∷ way) s level code es free after scratch scratch′ n ne h right few u =
-    up-with-all σ words f way s level code es free h after scratch scratch′ n right few u
+up-below-root [] ne h right few u = ne refl
+up-below-root (f ∷ way) ne h right few u = up-with-all h right few u
 
 -- on a register's words the splice is never refused
 pub never-refused : {change : Change} {root : Bool} {slot place removed inserted : ℕ} {before after scratch : List ℕ} → CanPut (change .layout) before slot place removed inserted scratch
@@ -150,7 +152,7 @@ never-refused {change} {root} {slot} {place} {removed} {inserted} {before} {afte
       scratch-long = refl;
       right = λ σ way level code a old new b free i p o n w h.
           r .1 (subst (λ (l : Layout). CanSplice (slotPart (l .width) before slot) scratch place removed inserted) (sym (i .layout-is))
-          (can-splice σ before way slot level code a old new b free place removed inserted scratch h p o n
+          (can-splice h p o n
           (subst (λ (l : Layout). LayoutFits l before) (i .layout-is) (can .fits)) (can .room) (can .inserted-to)));
     }
 
@@ -158,7 +160,7 @@ module _ {change : Change} {root : Bool} {slot place removed inserted count : �
     (can : CanPut (change .layout) before slot place removed inserted scratch)
     (put : PutMeets (change .layout) slot place removed inserted scratch before mid (placing.Elements count)) where
   -- what follows from the elements laid, right where nothing came, is what the step comes to
-  stepped : {after scratch′ : List ℕ} {r : Stepped} → Kept (change .layout) mid after → UpTo16 r → length scratch′ ≡ length scratch
+  stepped : {after scratch′ : List ℕ} {r : Stepped} → Kept (change .layout) mid after → FewHandedUp r → length scratch′ ≡ length scratch
       → ((σ : Setting) (way : List Frame) (level code : ℕ) (es : Placed) (free : List ℕ) → InSetting σ change root way → Laid σ mid way slot level code es free
       → (inserted ≡ 0 → LocallyRight (σ .k) level code es) → SteppedRight σ after scratch′ way slot r)
       → StepMeets change root slot place removed inserted before after scratch scratch′ r
@@ -169,7 +171,7 @@ module _ {change : Change} {root : Bool} {slot place removed inserted count : �
     right = λ σ way level code a old new b free i p o n w h.
         let done = subst (λ (l : Layout). PutMeets l slot place removed inserted scratch before mid (placing.Elements count)) (i .layout-is) put in
         right σ way level code (a ⧺ (new ⧺ b)) free i
-        (laid-by-splice σ before way slot level code a old new b free place removed inserted scratch h p o n mid w (done .1) (done .2)) (λ none. h .right-if-none-inserted (n ∙ none));
+        (laid-by-splice h p o n w (done .1) (done .2)) (λ none. h .right-if-none-inserted (n ∙ none));
   }
 
   -- where the elements laid are right, the change is at rest, or the underfull block is deinstantiated
@@ -178,12 +180,12 @@ module _ {change : Change} {root : Bool} {slot place removed inserted count : �
     at-rest-or-deinstantiated : {after scratch′ : List ℕ} (r : Stepped) → change .k ≤ 16 → UnderfullMeets change root slot count mid after scratch scratch′ r
         → StepMeets change root slot place removed inserted before after scratch scratch′ r
     at-rest-or-deinstantiated Done k-to (e, same, scratch-same) = stepped (kept-same (change .layout) mid _ same) tt (ap length scratch-same)
-        (λ σ way level code es free i h s. subst (Completed σ) (sym same) (done-as-it-is σ mid way slot level code es free h (right-then σ way level code es free i h s)
-        (enough σ change root way level code (size es) i (h .around .frames-right)
+        (λ σ way level code es free i h s. subst (Completed σ) (sym same) (done-as-it-is h (right-then σ way level code es free i h s)
+        (enough code i (h .around .frames-right)
         (subst (λ (n : ℕ). (root ≡ true) ⊎ (change .k ≤ n)) (sym (count-then can put) ∙ count-says i h) e))))
     at-rest-or-deinstantiated {after} {scratch′} (Up n) k-to (e, few, u) =
         stepped (kept-by-release (can .slot-below) (u .freed)) (omega (arith, u .rest-is, count-then can put)) (u .long)
-        (λ σ way level code es free i h s. up-below-root σ mid way slot level code es free after scratch scratch′ n (i .root-is .1 e) h (right-then σ way level code es free i h s)
+        (λ σ way level code es free i h s. up-below-root way (i .root-is .1 e) h (right-then σ way level code es free i h s)
         (omega (arith, count-then can put, count-says i h, i .k-is)) (subst (λ (l : Layout). HandedUpAll l slot mid after scratch scratch′ n) (i .layout-is) u))
     at-rest-or-deinstantiated Damaged k-to bad = absurd bad
 
@@ -198,7 +200,7 @@ module _ {change : Change} {root : Bool} {slot place removed inserted count : �
     never-too-high h = stepped (kept-same (change .layout) mid mid refl) tt refl (λ σ way level code es free i l s. omega (arith, ap levelWord lent, level-up-to i l))
 
     -- what the search found, in each setting
-    found : {σ : Setting} {way : List Frame} {level code : ℕ} {es : Placed} {free : List ℕ} (r : Run) → InSetting σ change root way → Laid σ mid way slot level code es free
+    found : {σ : Setting} {way : List Frame} {level code : ℕ} {es : Placed} {free : List ℕ} (r : RunFound) → InSetting σ change root way → Laid σ mid way slot level code es free
         → RunMeets part count (getD part 0 0) (change .k) (change .code) r
         → RunMeets (slotPart (widthIn σ) mid slot) (size es) level (σ .k) (σ .x) r
     found r i h =
@@ -208,7 +210,7 @@ module _ {change : Change} {root : Bool} {slot place removed inserted count : �
     pub at-rest-or-deinstantiated-no-run : {after scratch′ : List ℕ} {r : Stepped} → RunMeets part count (getD part 0 0) (change .k) (change .code) Nothing → change .k ≤ 16
         → UnderfullMeets change root slot count mid after scratch scratch′ r → StepMeets change root slot place removed inserted before after scratch scratch′ r
     at-rest-or-deinstantiated-no-run {r = r} none =
-        at-rest-or-deinstantiated (λ σ way level code es free i h s. right-as-it-is σ mid way slot level code es free h (found Nothing i h none (ascends i h))) r
+        at-rest-or-deinstantiated (λ σ way level code es free i h s. right-as-it-is h (found Nothing i h none (ascends i h))) r
 
     -- a run: regrouping goes on with it
     pub formed-then : {after scratch′ : List ℕ} {j first n : ℕ} {r : Stepped}
@@ -217,4 +219,4 @@ module _ {change : Change} {root : Bool} {slot place removed inserted count : �
     formed-then {j = j} {first = first} {n = n} run u =
         stepped (u .kept) (u .bounds) (u .scratch-long)
         (λ σ way level code es free i h s. u .right σ way level code es free i h
-        (run-formed σ mid way slot level code es free j first n h (ascends i h) (found (Formed j first n) i h run)))
+        (run-formed level h (ascends i h) (found (Formed j first n) i h run)))

@@ -1,4 +1,4 @@
--- What a change does to one block of the path. On any words it stays in bounds; on those of a register it goes as the laws of `change` say.
+-- What a change does to one block of the path. On any words it stays in bounds; on those of a register it comes to rest, or is pending one block up.
 use Prim.Native.Nat.{ℕ, _+_, _-_, _*_, _≤_, _<_}
 use mathlib.Core.Path.{_≡_}
 use mathlib.Core.Bool.{Bool, true, false}
@@ -7,21 +7,21 @@ use mathlib.Core.List.{List, [], _∷_}
 use lib.ListN.{length, take, drop}
 use Rattle.pktree.specs.Elements.{size, blockAt, empty}
 use Rattle.measures.specs.declared.sizes.Layout.{Layout}
-use Rattle.measures.specs.Layout.{LayoutFits, storeEnd}
-use Rattle.measures.specs.Slot.{slotPart, countWord}
+use Rattle.measures.specs.Layout.{LayoutFits, storeEnd, mostElements}
+use Rattle.measures.specs.Slot.{slotPart, countWord, elementIndex}
 use Rattle.store.specs.Splice.{CanSplice}
 use Rattle.store.specs.Placed.{Placed}
 use Rattle.store.proofs.Standing.{elementWords}
 use Rattle.descent.specs.Way.{Frame}
-use Rattle.rewrite.specs.Rewrite.{SplicedSlot, HandedUpAll}
-use Rattle.change.proofs.Pending.{Setting, Pending, Laid}
-use Rattle.change.proofs.RunLaw.{FormedAt}
-use Rattle.change.proofs.Completed.{Completed}
+use Rattle.rewrite.specs.Rewrite.{SplicedSlot, HandedUpAll, scratchWords}
 use Rattle.step.specs.declared.Change.{Change}
 use Rattle.step.specs.declared.Placing.{Placing}
 use Rattle.step.specs.declared.Placing.the-variants as placing
 use Rattle.step.specs.declared.Stepped.{Stepped}
 use Rattle.step.specs.declared.Stepped.the-variants.{Done, Up, Damaged}
+use Rattle.ascent.proofs.Pending.{Setting, Pending, Laid}
+use Rattle.ascent.proofs.FormedAt.{FormedAt}
+use Rattle.ascent.proofs.Completed.{Completed}
 
 -- words 0 to 5 and those past the formula are as they were
 pub record Kept (layout : Layout) (before after : List ℕ) : Type 0 where
@@ -29,14 +29,18 @@ pub record Kept (layout : Layout) (before after : List ℕ) : Type 0 where
   pub head : take 6 after ≡ take 6 before
   pub past : drop (storeEnd layout) after ≡ drop (storeEnd layout) before
 
--- at most 75 elements lie before the place, and at most 16 come
+-- a block hands up its elements where it has fewer than k, which is at most 16
+abbrev pub mostHandedUp : ℕ
+mostHandedUp = 16
+
+-- the place is one among the elements of a slot
 pub record CanPut (layout : Layout) (words : List ℕ) (slot place removed inserted : ℕ) (scratch : List ℕ) : Type 0 where
   pub fits : LayoutFits layout words
   pub slot-below : slot < layout .slots
-  pub place-to : place ≤ 75
+  pub place-to : place ≤ mostElements
   pub removed-to : removed ≤ 1
-  pub inserted-to : inserted ≤ 16
-  pub room : length scratch ≡ 32
+  pub inserted-to : inserted ≤ mostHandedUp
+  pub room : length scratch ≡ scratchWords
 
 -- the elements are spliced, so many there are then; or they cannot be
 abbrev pub PutMeets : Layout → ℕ → ℕ → ℕ → ℕ → List ℕ → List ℕ → List ℕ → Placing → Type 0
@@ -69,24 +73,24 @@ SteppedRight σ words scratch [] slot (Up n) = ⊥
 SteppedRight σ words scratch (f ∷ way) slot (Up n) = PendingAbove σ words scratch f way slot n
 SteppedRight σ words scratch way slot Damaged = ⊥
 
-abbrev pub UpTo16 : Stepped → Type 0
-UpTo16 Done = Unit {0}
-UpTo16 (Up n) = n ≤ 16
-UpTo16 Damaged = Unit {0}
+abbrev pub FewHandedUp : Stepped → Type 0
+FewHandedUp Done = Unit {0}
+FewHandedUp (Up n) = n ≤ mostHandedUp
+FewHandedUp Damaged = Unit {0}
 
 pub record CanRegroup (change : Change) (words : List ℕ) (slot level first size : ℕ) (scratch : List ℕ) : Type 0 where
   pub fits : LayoutFits (change .layout) words
   pub slot-below : slot < change .layout .slots
   pub level-to : level ≤ 15
-  pub laid : 8 + 2 * countWord (slotPart (change .layout .width) words slot) ≤ change .layout .width
+  pub laid : elementIndex (countWord (slotPart (change .layout .width) words slot)) ≤ change .layout .width
   pub within : first + size ≤ countWord (slotPart (change .layout .width) words slot)
   pub size-from : 1 ≤ size
   pub k-to : change .k ≤ 16
-  pub room : length scratch ≡ 32
+  pub room : length scratch ≡ scratchWords
 
 pub record RegroupMeets (change : Change) (root : Bool) (slot level first size : ℕ) (before after scratch scratch′ : List ℕ) (r : Stepped) : Type 0 where
   pub kept : Kept (change .layout) before after
-  pub bounds : UpTo16 r
+  pub bounds : FewHandedUp r
   pub scratch-long : length scratch′ ≡ length scratch
   pub right : (σ : Setting) (way : List Frame) (outer code : ℕ) (es : Placed) (free : List ℕ) → InSetting σ change root way
       → Laid σ before way slot outer code es free → FormedAt (σ .k) outer code (σ .x) level first size es → SteppedRight σ after scratch′ way slot r
@@ -99,7 +103,7 @@ UnderfullMeets change root slot count before after scratch scratch′ Damaged = 
 
 pub record StepMeets (change : Change) (root : Bool) (slot place removed inserted : ℕ) (before after scratch scratch′ : List ℕ) (r : Stepped) : Type 0 where
   pub kept : Kept (change .layout) before after
-  pub bounds : UpTo16 r
+  pub bounds : FewHandedUp r
   pub scratch-long : length scratch′ ≡ length scratch
   pub right : (σ : Setting) (way : List Frame) (level code : ℕ) (a old new b : Placed) (free : List ℕ) → InSetting σ change root way
       → size a ≡ place → size old ≡ removed → size new ≡ inserted → take (2 * inserted) scratch ≡ elementWords new

@@ -3,6 +3,8 @@ ghost use Prim.Native.Nat.{_≤_, _<_};
 ghost use Rattle.rewrite.specs.Rewrite.{CanHandUp};
 ghost use Rattle.step.specs.Step.{CanPut, PutMeets, CanRegroup, RegroupMeets, UnderfullMeets, StepMeets};
 use measures::sizes::Layout;
+use measures::slots::COUNT;
+use measures::slots::LEVEL;
 use measures::slots::offset;
 use measures::slots::slot_part;
 use measures::slots::wide;
@@ -11,7 +13,7 @@ use rewrite::form_block;
 use rewrite::hand_up_all;
 use rewrite::hand_up_block;
 use rewrite::splice_slot;
-use runs::Run;
+use runs::RunFound;
 use runs::find_run;
 
 // Where the slots lie, k, and the code at which the set changes.
@@ -41,7 +43,7 @@ fn put(
 {
     let at = offset(layout, slot);
     let room = (layout.width - 8) / 2;
-    let count = wide(store[at + 2]);
+    let count = wide(store[at + COUNT]);
     if room < count {
         return Placing::Damaged;
     }
@@ -79,7 +81,7 @@ fn regroup(
     let layout = change.layout;
     let code = morton::block_around(change.code, level);
     let at = offset(layout, slot);
-    let rest = wide(store[at + 2]) - size + 1;
+    let rest = wide(store[at + COUNT]) - size + 1;
     if !root {
         if rest < change.k {
             return Stepped::Up(hand_up_block(
@@ -145,14 +147,14 @@ pub fn step(
         return deinstantiate_underfull(store, change, root, slot, count, scratch);
     }
     let part = slot_part(store, layout, slot);
-    let level = part[0];
+    let level = part[LEVEL];
     if 16 < level {
         return Stepped::Damaged;
     }
     let near = place + inserted;
     match find_run(part, count, near, level, change.k, change.code) {
-        Run::Nothing => deinstantiate_underfull(store, change, root, slot, count, scratch),
-        Run::Formed {
+        RunFound::Nothing => deinstantiate_underfull(store, change, root, slot, count, scratch),
+        RunFound::Formed {
             level: inner,
             first,
             length,

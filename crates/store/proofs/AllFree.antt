@@ -7,6 +7,7 @@ use mathlib.Core.List.{List}
 use lib.ListN.{length, take, drop, set}
 use lib.Seq.{take-set-le, take-set-lt, getD-set-same}
 use Rattle.pktree.specs.Lists.{Every}
+use Rattle.measures.specs.Words.{headWords, firstFreeIndex}
 use Rattle.measures.specs.declared.sizes.Layout.{Layout}
 use Rattle.measures.specs.Layout.{LayoutFits, storeEnd}
 use Rattle.measures.specs.Slot.{slotPart}
@@ -38,16 +39,16 @@ numbers-inside first (suc n) limit h = (omega arith, numbers-inside (suc first) 
 -- the slots from `slot` on are in the chain
 pub record FreedFrom (layout : Layout) (slot : ℕ) (before after : List ℕ) : Type 0 where
   pub long : length after ≡ length before
-  pub head : take 7 after ≡ take 7 before
+  pub head : take firstFreeIndex after ≡ take firstFreeIndex before
   pub root : slotPart (layout .width) after 0 ≡ slotPart (layout .width) before 0
   pub chain : FreeSlots (layout .width) after (numbersFrom slot (layout .slots - slot))
   pub past : drop (storeEnd layout) after ≡ drop (storeEnd layout) before
 
 -- a chain that ends at once
-pub none-freed : (layout : Layout) (words : List ℕ) → LayoutFits layout words → FreedFrom layout (layout .slots) (set words 7 noSlot) (set words 7 noSlot)
+pub none-freed : (layout : Layout) (words : List ℕ) → LayoutFits layout words → FreedFrom layout (layout .slots) (set words firstFreeIndex noSlot) (set words firstFreeIndex noSlot)
 none-freed layout words fits =
     let e : layout .slots - layout .slots ≡ 0 = omega arith in
-    record { long = refl; head = refl; root = refl; chain = rw e (getD-set-same words 7 noSlot 0 (omega (arith, fits .lies))); past = refl }
+    record { long = refl; head = refl; root = refl; chain = rw e (getD-set-same words firstFreeIndex noSlot 0 (omega (arith, fits .lies))); past = refl }
 
 -- one slot released before the chain of those above it
 pub one-more-freed : (layout : Layout) (slot : ℕ) (before during after : List ℕ) → 1 < slot → slot ≤ layout .slots → FreedFrom layout slot before during
@@ -59,20 +60,20 @@ one-more-freed layout slot before during after low high f r =
     let out : occurrences (slot - 1) rest ≡ 0 = numbers-before (slot - 1) slot (layout .slots - slot) (omega arith) in
     record {
       long = r .long ∙ f .long;
-      head = take-less 7 8 (set during 7 (slot - 1)) after (omega arith) (r .head ∙ sym (take-set-lt 8 during 7 (slot - 1) (omega arith)))
-          ∙ take-set-le 7 during 7 (slot - 1) (omega arith) ∙ f .head;
+      head = take-less firstFreeIndex headWords (set during firstFreeIndex (slot - 1)) after (omega arith) (r .head ∙ sym (take-set-lt headWords during firstFreeIndex (slot - 1) (omega arith)))
+          ∙ take-set-le firstFreeIndex during firstFreeIndex (slot - 1) (omega arith) ∙ f .head;
       root = r .others 0 (λ z. omega arith) ∙ f .root;
       chain = rw (n, s) (chain-released (layout .width) (slot - 1) rest during after r out (f .chain));
       past = r .past (layout .slots) (omega arith) ∙ f .past;
     }
 
 -- down to slot 1
-pub all-freed : (layout : Layout) (slot : ℕ) (before after : List ℕ) → slot ≡ 1 → FreedFrom layout slot (set before 7 noSlot) after → AllFree layout before after
+pub all-freed : (layout : Layout) (slot : ℕ) (before after : List ℕ) → slot ≡ 1 → FreedFrom layout slot (set before firstFreeIndex noSlot) after → AllFree layout before after
 all-freed layout slot before after e f =
-    let w = head-word-set (layout .width) before 7 noSlot (omega arith) in
+    let w = head-word-set (layout .width) before firstFreeIndex noSlot (omega arith) in
     record {
       long = f .long ∙ w .long;
-      head = f .head ∙ take-set-le 7 before 7 noSlot (omega arith);
+      head = f .head ∙ take-set-le firstFreeIndex before firstFreeIndex noSlot (omega arith);
       root = f .root ∙ w .slots 0;
       chain = rw e at (f .chain);
       past = f .past ∙ w .past (layout .slots);

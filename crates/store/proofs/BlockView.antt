@@ -13,8 +13,8 @@ use Rattle.pktree.proofs.Alignment.{aligned-root}
 use Rattle.pktree.proofs.Arranged.{Arranged, LocallyRight, arranged-le}
 use Rattle.pktree.proofs.Forests.{size-join}
 use Rattle.store.specs.declared.elements.Element.the-variants.{Pixel, Block}
-use Rattle.measures.specs.Sizes.{slotCount, slotWidth}
-use Rattle.measures.specs.Slot.{slotPart, elementPart}
+use Rattle.measures.specs.Sizes.{slotCount, slotWidth, sizesOf}
+use Rattle.measures.specs.Slot.{slotPart, elementPart, elementIndex, slotHead}
 use Rattle.store.specs.Element.{elementOf, elementAt, tagSlots}
 use Rattle.store.specs.Placed.{Placed, slotsOf}
 use Rattle.store.specs.Sound.{Sound}
@@ -44,16 +44,16 @@ split-at (blockAt s j c fs t) (suc i) h = push (split-at t i (omega arith))
 
 -- the words of a slot are those of its elements
 pub element-word : (part : List ℕ) (level code : ℕ) (es : Placed) → SlotSays part level code es → (j : ℕ) → j < 2 * size es
-    → getD part (8 + j) 0 ≡ getD (elementWords es) j 0
+    → getD part (slotHead + j) 0 ≡ getD (elementWords es) j 0
 element-word part level code es says j h =
-    sym (getD-drop 8 part j 0) ∙ sym (getD-take (2 * size es) (elementPart part) j 0 h)
+    sym (getD-drop slotHead part j 0) ∙ sym (getD-take (2 * size es) (elementPart part) j 0 h)
     ∙ ap (λ (l : List ℕ). getD l j 0) (says .elements-are)
 
 -- the slot is long enough for what it says
-pub elements-lie : (part : List ℕ) (level code : ℕ) (es : Placed) → SlotSays part level code es → 8 ≤ length part → 8 + 2 * size es ≤ length part
+pub elements-lie : (part : List ℕ) (level code : ℕ) (es : Placed) → SlotSays part level code es → slotHead ≤ length part → elementIndex (size es) ≤ length part
 elements-lie part level code es says h =
     let l : length (take (2 * size es) (elementPart part)) ≡ 2 * size es = ap length (says .elements-are) ∙ length-element-words es in
-    omega (arith, length-take (2 * size es) (elementPart part), lib.ListN.length-drop 8 part)
+    omega (arith, length-take (2 * size es) (elementPart part), lib.ListN.length-drop slotHead part)
 
 -- the words of the element after a
 words-after : (a b : Placed) (j : ℕ) → getD (elementWords (a ⧺ b)) (2 * size a + j) 0 ≡ getD (elementWords b) j 0
@@ -66,7 +66,7 @@ module _ (part : List ℕ) (level code : ℕ) (es a b : Placed) (says : SlotSays
   element-pixel c e =
       let n : ℕ = size a in
       let s : size es ≡ n + suc (size b) = ap size e ∙ size-join a (pixel c b) in
-      let w : (j : ℕ) → j < 2 → getD part (8 + 2 * n + j) 0 ≡ getD (elementWords (pixel c b)) j 0 =
+      let w : (j : ℕ) → j < 2 → getD part (elementIndex n + j) 0 ≡ getD (elementWords (pixel c b)) j 0 =
       λ j h. ap (λ (m : ℕ). getD part m 0) (omega arith) ∙ element-word part level code es says (2 * n + j) (omega arith)
       ∙ ap (λ (t : Placed). getD (elementWords t) (2 * n + j) 0) e ∙ words-after a (pixel c b) j in
       ap₂ elementOf (ap (λ (m : ℕ). getD part m 0) (omega arith) ∙ w 0 (omega arith)) (w 1 (omega arith))
@@ -75,7 +75,7 @@ module _ (part : List ℕ) (level code : ℕ) (es a b : Placed) (says : SlotSays
   element-block s j c fs e small =
       let n : ℕ = size a in
       let z : size es ≡ n + suc (size b) = ap size e ∙ size-join a (blockAt s j c fs b) in
-      let w : (i : ℕ) → i < 2 → getD part (8 + 2 * n + i) 0 ≡ getD (elementWords (blockAt s j c fs b)) i 0 =
+      let w : (i : ℕ) → i < 2 → getD part (elementIndex n + i) 0 ≡ getD (elementWords (blockAt s j c fs b)) i 0 =
       λ i h. ap (λ (m : ℕ). getD part m 0) (omega arith) ∙ element-word part level code es says (2 * n + i) (omega arith)
       ∙ ap (λ (t : Placed). getD (elementWords t) (2 * n + i) 0) e ∙ words-after a (blockAt s j c fs b) i in
       let tl : (s + j * tagSlots) / tagSlots ≡ j = omega arith in
@@ -162,14 +162,14 @@ child-view k width slots words slot level code es a s i c fs b v e =
 
 -- the root of a sound store
 pub root-view : (words : List ℕ) (placed es : Placed) → Sound words placed → SoundView words placed es
-    → BlockView (getD words 2 0) (slotWidth (getD words 2 0)) (slotCount (getD words 2 0) (getD words 3 0)) words 0 (getD words 1 0) 0 es
+    → BlockView (sizesOf words .k) (slotWidth (sizesOf words .k)) (slotCount (sizesOf words .k) (sizesOf words .most)) words 0 (sizesOf words .order) 0 es
 root-view words placed es sound v =
     record {
       slot-below = omega (arith, v .few);
       says = v .says;
       stands = v .stands;
       right = v .right;
-      aligned = aligned-root (getD words 1 0);
+      aligned = aligned-root (sizesOf words .order);
       level-from = sound .usable .valid .panel .order-from;
       level-to = sound .usable .valid .panel .order-to;
       ends = le-trans (omega arith) (pow-le-pow-right {n = 4} (omega arith) (sound .usable .valid .panel .order-to));

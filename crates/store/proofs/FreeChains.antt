@@ -8,14 +8,15 @@ use mathlib.Core.Bool.{Bool, true, false, cond}
 use mathlib.Core.Logic.{_⊎_, inl, inr}
 use mathlib.Core.List.{List, [], _∷_, _++_}
 use lib.Dec.{eqb}
-use lib.ListN.{length, getD, set, length-set}
+use lib.ListN.{length, set, length-set}
 use lib.Seq.{getD-set-same, getD-set-other}
 use borrow.Author.Tests.{eq-eqb, ne-eqb}
 use Rattle.pktree.specs.Lists.{Every, select}
+use Rattle.measures.specs.Words.{headWords, firstFreeWord, firstFreeIndex}
 use Rattle.measures.specs.declared.sizes.Layout.{Layout}
 use Rattle.store.specs.declared.free.FreeSlot.the-variants.{Taken, Missing}
 use Rattle.measures.specs.Layout.{LayoutFits}
-use Rattle.measures.specs.Slot.{slotPart, nextWord, Within}
+use Rattle.measures.specs.Slot.{slotPart, nextWord, Within, nextIndex, slotHead}
 use Rattle.store.specs.FreeSlots.{noSlot, FreeChain, FreeSlots, occurrences, TookFree, Released}
 use Rattle.measures.proofs.SlotWrites.{HeadWritten, head-word-set, slot-word-set, slot-length}
 
@@ -38,9 +39,9 @@ chain-kept width words words′ first (s ∷ free) e c =
     rw (← e .0) (c .0, c .1, r)
 
 -- and word 7
-pub free-kept : (width : ℕ) (words words′ free : List ℕ) → getD words′ 7 0 ≡ getD words 7 0
+pub free-kept : (width : ℕ) (words words′ free : List ℕ) → firstFreeWord words′ ≡ firstFreeWord words
     → Every (λ s. slotPart width words s ≡ slotPart width words′ s) free → FreeSlots width words free → FreeSlots width words′ free
-free-kept width words words′ free first e c = rw first (chain-kept width words words′ (getD words 7 0) free e c)
+free-kept width words words′ free first e c = rw first (chain-kept width words words′ (firstFreeWord words) free e c)
 
 -- a start has one chain of slots that there are; a slot with the number that ends a chain would let one go on past its end
 module _ (width : ℕ) (words : List ℕ) (slots : ℕ) (few : slots ≤ noSlot) where
@@ -107,7 +108,7 @@ pub record FirstTaken (layout : Layout) (slot : ℕ) (free before after : List �
   pub rest : List ℕ
   pub is : free ≡ slot ∷ rest
   pub chain : FreeSlots (layout .width) after rest
-  pub written : HeadWritten (layout .width) 7 (nextWord (slotPart (layout .width) before slot)) before after
+  pub written : HeadWritten (layout .width) firstFreeIndex (nextWord (slotPart (layout .width) before slot)) before after
 
 pub first-taken : (layout : Layout) (slot : ℕ) (free before after : List ℕ) → LayoutFits layout before → TookFree layout before after (Taken slot)
     → FreeSlots (layout .width) before free → FirstTaken layout slot free before after
@@ -115,12 +116,12 @@ first-taken layout slot [] before after fits took c = absurd (omega (arith, fits
 first-taken layout slot (t ∷ free) before after fits took c =
     let width : ℕ = layout .width in
     let next : ℕ = nextWord (slotPart width before slot) in
-    let w : HeadWritten width 7 next before (set before 7 next) = head-word-set width before 7 next (omega arith) in
+    let w : HeadWritten width firstFreeIndex next before (set before firstFreeIndex next) = head-word-set width before firstFreeIndex next (omega arith) in
     let e : t ≡ slot = sym (c .0) ∙ sym (took .0) in
-    let first : getD (set before 7 next) 7 0 ≡ next = getD-set-same before 7 next 0 (omega (arith, fits .lies)) in
+    let first : firstFreeWord (set before firstFreeIndex next) ≡ next = getD-set-same before firstFreeIndex next 0 (omega (arith, fits .lies)) in
     let r : FreeChain width before next free = rw e at (c .2) in
-    let k : FreeChain width (set before 7 next) next free =
-    chain-kept width before (set before 7 next) next free (every-of-all _ free (λ s. sym (w .slots s))) r in
+    let k : FreeChain width (set before firstFreeIndex next) next free =
+    chain-kept width before (set before firstFreeIndex next) next free (every-of-all _ free (λ s. sym (w .slots s))) r in
     rw (took .3) (record { rest = free; is = rw e; chain = rw first k; written = w })
 
 -- where none was to be taken, none is free
@@ -130,16 +131,16 @@ none-free layout [] before after inside took c = refl
 none-free layout (s ∷ free) before after inside took c = absurd (took .1 (omega arith) (rw (c .0) (c .1)))
 
 -- what `release` writes marks the slot free and puts it before the chain
-pub slot-released : (width slot at : ℕ) (words : List ℕ) → 8 ≤ width → Within width words slot → at ≡ 8 + slot * width
-    → Released width slot words (set (set (set words at 0) (at + 3) (getD (set words at 0) 7 0)) 7 slot)
+pub slot-released : (width slot at : ℕ) (words : List ℕ) → slotHead ≤ width → Within width words slot → at ≡ headWords + slot * width
+    → Released width slot words (set (set (set words at 0) (at + nextIndex) (firstFreeWord (set words at 0))) firstFreeIndex slot)
 slot-released width slot at words wide within e =
-    let next : ℕ = getD (set words at 0) 7 0 in
+    let next : ℕ = firstFreeWord (set words at 0) in
     let marked : List ℕ = set words at 0 in
-    let linked : List ℕ = set marked (at + 3) next in
-    let after : List ℕ = set linked 7 slot in
+    let linked : List ℕ = set marked (at + nextIndex) next in
+    let after : List ℕ = set linked firstFreeIndex slot in
     let m = slot-word-set width slot words at 0 0 (omega arith) (omega arith) in
-    let n = slot-word-set width slot marked (at + 3) 3 next (omega arith) (omega arith) in
-    let h = head-word-set width linked 7 slot (omega arith) in
+    let n = slot-word-set width slot marked (at + nextIndex) 3 next (omega arith) (omega arith) in
+    let h = head-word-set width linked firstFreeIndex slot (omega arith) in
     let long : length linked ≡ length words = n .only .long ∙ m .only .long in
     let others : (other : ℕ) → (other ≡ slot → ⊥) → slotPart width after other ≡ slotPart width words other =
     λ other ne. h .slots other ∙ n .only .others other ne ∙ m .only .others other ne in
@@ -147,13 +148,13 @@ slot-released width slot at words wide within e =
     h .slots slot ∙ n .self ∙ ap (λ (p : List ℕ). set p 3 next) (m .self) in
     let p : List ℕ = slotPart width words slot in
     let w : length p ≡ width = slot-length width slot words within in
-    let first : next ≡ getD words 7 0 = getD-set-other words at 7 0 0 (λ z. omega arith) in
+    let first : next ≡ firstFreeWord words = getD-set-other words at firstFreeIndex 0 0 (λ z. omega arith) in
     record {
       long = h .long ∙ long;
-      head = h .head ∙ ap (λ (l : List ℕ). set l 7 slot) (n .only .head ∙ m .only .head);
+      head = h .head ∙ ap (λ (l : List ℕ). set l firstFreeIndex slot) (n .only .head ∙ m .only .head);
       others = others;
       chain = λ free out c. (
-        getD-set-same linked 7 slot 0 (omega arith),
+        getD-set-same linked firstFreeIndex slot 0 (omega arith),
         rw self (getD-set-other (set p 0 0) 3 0 next 0 (λ z. omega arith) ∙ getD-set-same p 0 0 0 (omega arith)),
         rw (self, getD-set-same (set p 0 0) 3 next 0 (omega (arith, length-set p 0 0)))
             (chain-kept width words after next free (every-map _ _ free (λ s ne. sym (others s ne)) out) (rw first c)),

@@ -5,8 +5,8 @@ use mathlib.Core.Path.{_≡_, refl, subst₂}
 use mathlib.Core.List.{List}
 use lib.ListN.{length}
 use Rattle.measures.specs.declared.sizes.Layout.{Layout}
-use Rattle.measures.specs.Layout.{LayoutFits}
-use Rattle.measures.specs.Slot.{slotPart, countWord}
+use Rattle.measures.specs.Layout.{LayoutFits, mostElements}
+use Rattle.measures.specs.Slot.{slotPart, countWord, slotHead}
 use Rattle.measures.proofs.Usable.{part-length}
 use Rattle.store.specs.declared.opening.Opening.{Opening}
 use Rattle.store.specs.declared.opening.Opening.the-variants.{Elements, Damaged}
@@ -34,11 +34,11 @@ opened-not-shut o shut = shut (rw (o .header .count-is) (o .header))
 
 -- so few elements lie in a slot that their number does not matter to a word
 pub few-elements : {layout : Layout} {words : List ℕ} {slot level code count : ℕ} → LayoutFits layout words → slot < layout .slots
-    → HeaderSays (slotPart (layout .width) words slot) level code count → count ≤ 75
+    → HeaderSays (slotPart (layout .width) words slot) level code count → count ≤ mostElements
 few-elements fits below header = omega (arith, header .laid, part-length fits below refl .1)
 
 -- a slot in which elements stand has a header that says so
-pub header-of-standing : {part : List ℕ} {level code : ℕ} {es : Placed} → 8 ≤ length part → SlotSays part level code es → HeaderSays part level code (countWord part)
+pub header-of-standing : {part : List ℕ} {level code : ℕ} {es : Placed} → slotHead ≤ length part → SlotSays part level code es → HeaderSays part level code (countWord part)
 header-of-standing {part} {level} {code} {es} long says =
     record {
       level-is = says .level-is;

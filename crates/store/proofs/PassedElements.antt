@@ -3,13 +3,13 @@ use Prim.Native.Nat.{ℕ, _+_, _≤_, _<_}
 use native.Mathlib.Omega.{arith}
 use mathlib.Core.Path.{_≡_, refl, ap, subst, sym, _∙_}
 use mathlib.Core.List.{List}
-use Rattle.pktree.specs.Elements.{Forest, _⧺_, size, blockAt, empty, pixel}
+use Rattle.pktree.specs.Elements.{Forest, _⧺_, size, blockAt, empty, pixel, unlabelled}
 use Rattle.pktree.proofs.Forests.{join-assoc, join-empty, size-join}
 use Rattle.measures.specs.Slot.{slotPart}
 use Rattle.store.specs.declared.elements.Element.{Element}
 use Rattle.store.specs.declared.elements.Element.the-variants.{Pixel, Block}
 use Rattle.store.specs.Element.{elementAt}
-use Rattle.store.specs.Placed.{Placed, forestOf}
+use Rattle.store.specs.Placed.{Placed}
 use Rattle.store.proofs.BlockView.{BlockView, ChildView, element-pixel, element-block, child-view}
 use Rattle.store.proofs.OpenedSlot.{SlotOpened}
 
@@ -25,9 +25,9 @@ pub record Passed (Done : Forest → Type 0) (es : Placed) (i : ℕ) : Type 0 wh
   pub left : Placed
   pub is : es ≡ past ⧺ left
   pub many : size past ≡ i
-  pub done : Done (forestOf past)
+  pub done : Done (unlabelled past)
 
-pub none-passed : (Done : Forest → Type 0) (es : Placed) → Done (forestOf empty) → Passed Done es 0
+pub none-passed : (Done : Forest → Type 0) (es : Placed) → Done empty → Passed Done es 0
 none-passed Done es d = record { past = empty; left = es; is = refl; many = refl; done = d }
 
 module _ {k width slots : ℕ} {words : List ℕ} {slot level code : ℕ} {es : Placed} {count i : ℕ} {Done : Forest → Type 0} (opened : SlotOpened width words slot level code count)
@@ -35,17 +35,17 @@ module _ {k width slots : ℕ} {words : List ℕ} {slot level code : ℕ} {es : 
   size-is : size es ≡ count
   size-is = sym (view .says .count-is) ∙ opened .header .count-is
 
-  pub all-passed : count ≤ i → Done (forestOf es)
+  pub all-passed : count ≤ i → Done (unlabelled es)
   all-passed h = go (p .left) (p .is)
     where
-      go : (left : Placed) → es ≡ p .past ⧺ left → Done (forestOf es)
+      go : (left : Placed) → es ≡ p .past ⧺ left → Done (unlabelled es)
       go empty e = rw (e, join-empty (p .past)) (p .done)
       go (pixel c b) e = absurd (omega (arith, h, size-is, p .many, ap size e, size-join (p .past) (pixel c b)))
       go (blockAt s j c fs b) e = absurd (omega (arith, h, size-is, p .many, ap size e, size-join (p .past) (blockAt s j c fs b)))
 
   -- element i is looked at: of the elements before it and it holds what the walk makes of what held before
   pub one-more-passed : {Then : Forest → Type 0} → i < count
-      → ((f g h : Placed) → es ≡ (f ⧺ g) ⧺ h → OneElement k width slots words level code (elementAt (slotPart width words slot) i) g → Done (forestOf f) → Then (forestOf (f ⧺ g)))
+      → ((f g h : Placed) → es ≡ (f ⧺ g) ⧺ h → OneElement k width slots words level code (elementAt (slotPart width words slot) i) g → Done (unlabelled f) → Then (unlabelled (f ⧺ g)))
       → Passed Then es (i + 1)
   one-more-passed {Then} below turn = go (p .left) (p .is)
     where

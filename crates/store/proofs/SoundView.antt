@@ -5,10 +5,10 @@ use native.Mathlib.Nat.{le-div-iff-mul-le}
 use native.Mathlib.Decide.{decLe}
 use mathlib.Core.Path.{_≡_, ap, ap₂, subst, subst₂, _∙_}
 use mathlib.Core.List.{List, [], _++_, append-nil}
-use lib.ListN.{length, getD}
+use lib.ListN.{length}
 use Rattle.pktree.specs.Lists.{Every}
 use Rattle.pktree.specs.Panel.{Panel}
-use Rattle.pktree.specs.Elements.{ForestOf, empty, pixel, block, size, blockAt}
+use Rattle.pktree.specs.Elements.{ForestOf, empty, pixel, block, size, blockAt, unlabelled}
 use Rattle.pktree.specs.PixelSet.{member}
 use Rattle.pktree.specs.Tree.{tree, pixels}
 use Rattle.pktree.proofs.Forests.{blockCount}
@@ -18,17 +18,17 @@ use Rattle.pktree.proofs.BlockNumber.{blocks-take-pixels}
 use Rattle.pktree.proofs.LocalLaw.{tree-exactly-local}
 use Rattle.measures.specs.Sizes.{panelOf, slotCount, slotWidth, sizesOf}
 use Rattle.measures.specs.Slot.{slotPart}
-use Rattle.store.specs.Placed.{Placed, forestOf, slotsOf}
+use Rattle.store.specs.Placed.{Placed, slotsOf}
 use Rattle.store.specs.Sound.{Sound}
 use Rattle.store.proofs.Standing.{SlotSays, Stands, found, every-left}
 
 pub record SoundView (words : List ℕ) (placed es : Placed) : Type 0 where
-  pub is : placed ≡ blockAt 0 (getD words 1 0) 0 es empty
-  pub says : SlotSays (slotPart (slotWidth (getD words 2 0)) words 0) (getD words 1 0) 0 es
-  pub stands : Stands (slotWidth (getD words 2 0)) words es
-  pub right : LocallyRight (getD words 2 0) (getD words 1 0) 0 es
-  pub inside : Every (λ s. s < slotCount (getD words 2 0) (getD words 3 0)) (slotsOf es)
-  pub few : suc (blockCount es) ≤ slotCount (getD words 2 0) (getD words 3 0)
+  pub is : placed ≡ blockAt 0 (sizesOf words .order) 0 es empty
+  pub says : SlotSays (slotPart (slotWidth (sizesOf words .k)) words 0) (sizesOf words .order) 0 es
+  pub stands : Stands (slotWidth (sizesOf words .k)) words es
+  pub right : LocallyRight (sizesOf words .k) (sizesOf words .order) 0 es
+  pub inside : Every (λ s. s < slotCount (sizesOf words .k) (sizesOf words .most)) (slotsOf es)
+  pub few : suc (blockCount es) ≤ slotCount (sizesOf words .k) (sizesOf words .most)
   pub same-pixels : pixels placed ≡ pixels es
 
 some-element : {A : Type 0} (f : ForestOf A) → 1 ≤ blockCount f → 1 ≤ size f
@@ -53,30 +53,30 @@ slots-suffice (suc K) m most es h one r n = go (decLe 1 (blockCount es))
     go (no p) = omega arith
 
 -- the tree read, without its slots, is the tree of its own pixels
-own-tree : {words : List ℕ} {placed : Placed} → Sound words placed → forestOf placed ≡ tree (panelOf (sizesOf words)) (member (pixels (forestOf placed)))
+own-tree : {words : List ℕ} {placed : Placed} → Sound words placed → unlabelled placed ≡ tree (panelOf (sizesOf words)) (member (pixels (unlabelled placed)))
 own-tree {words} {placed} sound = rw (pixels-unlabelled placed) (sound .is-tree)
 
 pub sound-view : (words : List ℕ) (placed : Placed) → Sound words placed → (es : Placed) × SoundView words placed es
 sound-view words placed sound =
-    let f = found (slotWidth (getD words 2 0)) words (getD words 1 0) 0 placed (sound .reads) in
+    let f = found (slotWidth (sizesOf words .k)) words (sizesOf words .order) 0 placed (sound .reads) in
     let es : Placed = f .elements in
     let panel : Panel = panelOf (sizesOf words) in
-    let root : forestOf placed ≡ block (f .level) (f .code) (forestOf es) empty = ap forestOf (f .is) in
-    let (g, e, right) = tree-exactly-local panel (forestOf placed) (sound .usable .valid .panel .k-from) .0 (own-tree sound) in
-    let el : f .level ≡ getD words 1 0 = cc (root, e) in
+    let root : unlabelled placed ≡ block (f .level) (f .code) (unlabelled es) empty = ap unlabelled (f .is) in
+    let (g, e, right) = tree-exactly-local panel (unlabelled placed) (sound .usable .valid .panel .k-from) .0 (own-tree sound) in
+    let el : f .level ≡ sizesOf words .order = cc (root, e) in
     let ec : f .code ≡ 0 = cc (root, e) in
-    let eg : g ≡ forestOf es = cc (root, e) in
-    let r : LocallyRight (getD words 2 0) (getD words 1 0) 0 es = labelled-local (subst (LocallyRight (getD words 2 0) (getD words 1 0) 0) eg right) in
+    let eg : g ≡ unlabelled es = cc (root, e) in
+    let r : LocallyRight (sizesOf words .k) (sizesOf words .order) 0 es = labelled-local (subst (LocallyRight (sizesOf words .k) (sizesOf words .order) 0) eg right) in
     let ep : pixels placed ≡ pixels es = ap pixels (f .is) ∙ append-nil (pixels es) in (
       es,
       record {
         is = f .is ∙ ap₂ (λ (i c : ℕ). blockAt 0 i c es empty) el ec;
-        says = subst₂ (λ (i c : ℕ). SlotSays (slotPart (slotWidth (getD words 2 0)) words 0) i c es) el ec (f .says);
+        says = subst₂ (λ (i c : ℕ). SlotSays (slotPart (slotWidth (sizesOf words .k)) words 0) i c es) el ec (f .says);
         stands = f .stands;
         right = r;
-        inside = every-left _ (slotsOf es) [] (every-left _ (slotsOf es ++ []) (sound .free) (subst (λ (l : List ℕ). Every (λ s. s < slotCount (getD words 2 0) (getD words 3 0)) (l ++ sound .free)) (ap slotsOf (f .is)) (sound .shared .inside) .1));
-        few = slots-suffice (getD words 2 0) (getD words 1 0) (getD words 3 0) es (sound .usable .valid .panel .k-from) (sound .usable .valid .most-from) r
-            (subst (λ (l : List ℕ). length l ≤ getD words 3 0) ep (sound .fits));
+        inside = every-left _ (slotsOf es) [] (every-left _ (slotsOf es ++ []) (sound .free) (subst (λ (l : List ℕ). Every (λ s. s < slotCount (sizesOf words .k) (sizesOf words .most)) (l ++ sound .free)) (ap slotsOf (f .is)) (sound .shared .inside) .1));
+        few = slots-suffice (sizesOf words .k) (sizesOf words .order) (sizesOf words .most) es (sound .usable .valid .panel .k-from) (sound .usable .valid .most-from) r
+            (subst (λ (l : List ℕ). length l ≤ sizesOf words .most) ep (sound .fits));
         same-pixels = ep;
       },
     )

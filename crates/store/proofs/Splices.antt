@@ -5,7 +5,7 @@ use mathlib.Core.Path.{_≡_, _∙_}
 use mathlib.Core.List.{List, _++_, append-assoc}
 use lib.ListN.{length, take, drop, set, length-append, length-take, length-drop, length-set, List·getD-append}
 use lib.Seq.{paste, drop-drop, take-add, take-take, take-at, drop-at, take-append-le, length-take-le, set-append-left, getD-set-same}
-use Rattle.measures.specs.Slot.{countWord}
+use Rattle.measures.specs.Slot.{countWord, elementIndex, countIndex, slotHead}
 use Rattle.store.specs.Splice.{elementsIn, CanSplice, Spliced}
 use Rattle.measures.proofs.SlotWrites.{drop-take}
 
@@ -39,18 +39,18 @@ paste-before d at a m b n hd =
     )
 
 -- the elements of a slot that is known in parts
-elements-at : (header elements rest : List ℕ) → length header ≡ 8 → length elements ≡ 2 * countWord header
+elements-at : (header elements rest : List ℕ) → length header ≡ slotHead → length elements ≡ 2 * countWord header
     → elementsIn (header ++ (elements ++ rest)) ≡ elements
 elements-at header elements rest h e =
     let g : 2 < length header = omega arith in
-    rw (List·getD-append header (elements ++ rest) 0 2 g, drop-at header (elements ++ rest) 8 h, take-at elements rest _ e)
+    rw (List·getD-append header (elements ++ rest) 0 countIndex g, drop-at header (elements ++ rest) slotHead h, take-at elements rest _ e)
 
 module _ (part source : List ℕ) (place removed inserted : ℕ) (can : CanSplice part source place removed inserted) (count : ℕ) (count-is : count ≡ countWord part) where
   abbrev left : ℕ
   left = 2 * (count - place - removed)
 
   abbrev at : ℕ
-  at = 8 + 2 * place
+  at = elementIndex place
 
   abbrev elements : List ℕ
   elements = take (2 * place) (elementsIn part) ++ (take (2 * inserted) source ++ drop (2 * (place + removed)) (elementsIn part))
@@ -62,8 +62,8 @@ module _ (part source : List ℕ) (place removed inserted : ℕ) (can : CanSplic
   tail-is : take left (drop (at + 2 * removed) part) ≡ drop (2 * (place + removed)) (elementsIn part)
   tail-is =
       let e : 2 * countWord part ≡ 2 * (place + removed) + left = omega arith in
-      let f : at + 2 * removed ≡ 8 + 2 * (place + removed) = omega arith in
-      rw (e, f, drop-take (2 * (place + removed)) left (drop 8 part), drop-drop)
+      let f : at + 2 * removed ≡ elementIndex (place + removed) = omega arith in
+      rw (e, f, drop-take (2 * (place + removed)) left (drop slotHead part), drop-drop)
 
   elements-long : length elements ≡ 2 * (count - removed + inserted)
   elements-long =
@@ -72,7 +72,7 @@ module _ (part source : List ℕ) (place removed inserted : ℕ) (can : CanSplic
       rw (length-append, length-append, f, length-take-le (2 * inserted) source (can .source-long), length-drop, h) (omega arith)
 
   -- the words after the tail is moved and the source laid before it
-  laid : paste (paste part (at + 2 * inserted) (drop (at + 2 * removed) part) left) at source (2 * inserted) ≡ take 8 part ++ (elements ++ rest)
+  laid : paste (paste part (at + 2 * inserted) (drop (at + 2 * removed) part) left) at source (2 * inserted) ≡ take slotHead part ++ (elements ++ rest)
   laid =
       let h : at + 2 * inserted ≤ length part = omega arith in
       let g : 2 * place ≤ 2 * countWord part = omega arith in
@@ -81,16 +81,16 @@ module _ (part source : List ℕ) (place removed inserted : ℕ) (can : CanSplic
 
   -- the tail is moved, the source is laid at the place, and the number anew
   pub splice-law : {moved after : List ℕ} → moved ≡ paste part (at + 2 * inserted) (drop (at + 2 * removed) part) left
-      → after ≡ paste moved at source (2 * inserted) → Spliced part source place removed inserted (set after 2 (count - removed + inserted))
+      → after ≡ paste moved at source (2 * inserted) → Spliced part source place removed inserted (set after countIndex (count - removed + inserted))
   splice-law {moved} {after} tail-moved source-laid =
       let n : ℕ = count - removed + inserted in
-      let h : length (take 8 part) ≡ 8 = length-take-le 8 part (omega arith) in
-      let h′ : length (set (take 8 part) 2 n) ≡ 8 = simp length-set h in
-      let n-is : countWord (set (take 8 part) 2 n) ≡ n = getD-set-same (take 8 part) 2 n 0 (omega arith) in
-      let after-is : set after 2 n ≡ set (take 8 part) 2 n ++ (elements ++ rest) =
-      rw (source-laid, tail-moved, laid) (set-append-left (take 8 part) (elements ++ rest) 2 n (omega arith)) in
+      let h : length (take slotHead part) ≡ slotHead = length-take-le slotHead part (omega arith) in
+      let h′ : length (set (take slotHead part) countIndex n) ≡ slotHead = simp length-set h in
+      let n-is : countWord (set (take slotHead part) countIndex n) ≡ n = getD-set-same (take slotHead part) countIndex n 0 (omega arith) in
+      let after-is : set after countIndex n ≡ set (take slotHead part) countIndex n ++ (elements ++ rest) =
+      rw (source-laid, tail-moved, laid) (set-append-left (take slotHead part) (elements ++ rest) countIndex n (omega arith)) in
       record {
-        elements = rw after-is (elements-at (set (take 8 part) 2 n) elements rest h′ (rw n-is elements-long));
-        header = rw (← count-is, after-is) (take-at (set (take 8 part) 2 n) (elements ++ rest) 8 h′);
+        elements = rw after-is (elements-at (set (take slotHead part) countIndex n) elements rest h′ (rw n-is elements-long));
+        header = rw (← count-is, after-is) (take-at (set (take slotHead part) countIndex n) (elements ++ rest) slotHead h′);
         long = rw (after-is, length-append, length-append, h′, elements-long, length-drop) (omega arith);
       }

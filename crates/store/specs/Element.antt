@@ -5,6 +5,7 @@ use mathlib.Core.List.{List}
 use lib.ListN.{getD}
 use Rattle.store.specs.declared.elements.Element.{Element}
 use Rattle.store.specs.declared.elements.Element.the-variants.{Pixel, Block}
+use Rattle.measures.specs.Slot.{elementIndex}
 
 -- so many slots can be named
 abbrev pub tagSlots : ℕ
@@ -26,4 +27,4 @@ elementOf code (suc tag) = Block (tagSlot tag) (tagLevel tag) code
 
 -- element i of a slot's words
 abbrev pub elementAt : List ℕ → ℕ → Element
-elementAt part i = elementOf (getD part (8 + 2 * i) 0) (getD part (8 + 2 * i + 1) 0)
+elementAt part i = elementOf (getD part (elementIndex i) 0) (getD part (elementIndex i + 1) 0)

@@ -3,8 +3,9 @@ use Prim.Native.Nat.{ℕ, _+_, _*_, _<_}
 use mathlib.Core.Path.{_≡_}
 use mathlib.Core.List.{List, [], _∷_}
 use lib.Dec.{eqb}
-use lib.ListN.{length, getD, take, drop, set}
+use lib.ListN.{length, take, drop, set}
 use Rattle.pktree.specs.Lists.{Every, select}
+use Rattle.measures.specs.Words.{headWords, firstFreeWord, firstFreeIndex}
 use Rattle.measures.specs.declared.sizes.Layout.{Layout}
 use Rattle.store.specs.declared.free.FreeSlot.{FreeSlot}
 use Rattle.store.specs.declared.free.FreeSlot.the-variants.{Taken, Missing}
@@ -20,7 +21,7 @@ FreeChain width words first (s ∷ free) =
     (first ≡ s) × (levelWord (slotPart width words s) ≡ 0) × FreeChain width words (nextWord (slotPart width words s)) free
 
 abbrev pub FreeSlots : ℕ → List ℕ → List ℕ → Type 0
-FreeSlots width words free = FreeChain width words (getD words 7 0) free
+FreeSlots width words free = FreeChain width words (firstFreeWord words) free
 
 -- how often a slot is in a list
 abbrev pub occurrences : ℕ → List ℕ → ℕ
@@ -29,15 +30,15 @@ occurrences slot l = length (select (λ s. eqb s slot) l)
 -- what taking the first free slot does: word 7 names the next; or it names no free slot, and nothing changed
 abbrev pub TookFree : Layout → List ℕ → List ℕ → FreeSlot → Type 0
 TookFree layout before after (Taken s) =
-    (s ≡ getD before 7 0) × (s < layout .slots) × (levelWord (slotPart (layout .width) before s) ≡ 0)
-    × (after ≡ set before 7 (nextWord (slotPart (layout .width) before s)))
+    (s ≡ firstFreeWord before) × (s < layout .slots) × (levelWord (slotPart (layout .width) before s) ≡ 0)
+    × (after ≡ set before firstFreeIndex (nextWord (slotPart (layout .width) before s)))
 TookFree layout before after Missing =
-    (after ≡ before) × (getD before 7 0 < layout .slots → levelWord (slotPart (layout .width) before (getD before 7 0)) ≡ 0 → ⊥)
+    (after ≡ before) × (firstFreeWord before < layout .slots → levelWord (slotPart (layout .width) before (firstFreeWord before)) ≡ 0 → ⊥)
 
 -- a slot put before the chain: word 7 and words 0 and 3 of the slot changed
 pub record Released (width slot : ℕ) (before after : List ℕ) : Type 0 where
   pub long : length after ≡ length before
-  pub head : take 8 after ≡ set (take 8 before) 7 slot
+  pub head : take headWords after ≡ set (take headWords before) firstFreeIndex slot
   pub others : (other : ℕ) → (other ≡ slot → ⊥) → slotPart width after other ≡ slotPart width before other
   pub chain : (free : List ℕ) → Every (λ s. s ≡ slot → ⊥) free → FreeSlots width before free → FreeSlots width after (slot ∷ free)
-  pub past : (n : ℕ) → slot < n → drop (8 + n * width) after ≡ drop (8 + n * width) before
+  pub past : (n : ℕ) → slot < n → drop (headWords + n * width) after ≡ drop (headWords + n * width) before

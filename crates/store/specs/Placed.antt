@@ -1,15 +1,11 @@
 -- A forest whose every block has a slot.
 use Prim.Native.Nat.{ℕ}
 use mathlib.Core.List.{List, [], _∷_, _++_}
-use Rattle.pktree.specs.Elements.{ForestOf, Forest, empty, pixel, blockAt, unlabelled}
+use Rattle.pktree.specs.Elements.{ForestOf, empty, pixel, blockAt}
 
 -- each block with its slot
 abbrev pub Placed : Type 0
 Placed = ForestOf ℕ
-
--- without the slots
-abbrev pub forestOf : Placed → Forest
-forestOf t = unlabelled t
 
 -- the slots, each as often as it is used
 abbrev pub slotsOf : Placed → List ℕ

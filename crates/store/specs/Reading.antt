@@ -1,14 +1,13 @@
 -- 01: the one written definition that reads the words as a tree. It looks at the slots only, takes each block from a slot of its own,
 -- with just the elements that this slot's words name, and works none out from the pixels.
-use Prim.Native.Nat.{ℕ, zero, suc, _/_, _%_}
+use Prim.Native.Nat.{ℕ, zero, suc}
 use mathlib.Core.Bool.{_&&_, cond}
 use mathlib.Core.Option.{Option, none, some}
 use mathlib.Core.List.{List, [], _∷_}
 use lib.Dec.{eqb}
-use lib.ListN.{getD}
 use Rattle.store.specs.Element.{tagLevel, tagSlot}
 use Rattle.pktree.specs.Elements.{blockAt, empty, pixel}
-use Rattle.measures.specs.Sizes.{slotWidth}
+use Rattle.measures.specs.Sizes.{slotWidth, sizesOf}
 use Rattle.measures.specs.Slot.{slotPart, levelWord, codeWord, countWord, elementPart}
 use Rattle.store.specs.Placed.{Placed}
 
@@ -49,4 +48,4 @@ readSlot width words (suc depth) slot =
 
 -- the tree of a store: the root is in slot 0, and m blocks stand around one another at most
 abbrev pub treeOf : List ℕ → Option Placed
-treeOf words = readSlot (slotWidth (getD words 2 0)) words (getD words 1 0) 0
+treeOf words = readSlot (slotWidth (sizesOf words .k)) words (sizesOf words .order) 0

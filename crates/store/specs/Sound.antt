@@ -3,14 +3,16 @@ use Prim.Native.Nat.{ℕ, _≤_, _<_}
 use mathlib.Core.Path.{_≡_}
 use mathlib.Core.Option.{some}
 use mathlib.Core.List.{List, _++_}
-use lib.ListN.{length, getD}
+use lib.ListN.{length}
 use Rattle.pktree.specs.Lists.{Every}
 use Rattle.pktree.specs.PixelSet.{member}
 use Rattle.pktree.specs.Tree.{tree, pixels}
+use Rattle.measures.specs.Words.{pixelsWord}
 use Rattle.measures.specs.Sizes.{panelOf, slotCount, slotWidth, sizesOf, UsableStore}
-use Rattle.store.specs.Placed.{Placed, forestOf, slotsOf}
+use Rattle.store.specs.Placed.{Placed, slotsOf}
 use Rattle.store.specs.Reading.{treeOf}
 use Rattle.store.specs.FreeSlots.{FreeSlots, occurrences}
+use Rattle.pktree.specs.Elements.{unlabelled}
 
 -- every slot is in the tree or free, and only once; none is beyond the last
 pub record SlotsShared (slots : ℕ) (used free : List ℕ) : Type 0 where
@@ -22,17 +24,22 @@ pub record Sound (words : List ℕ) (placed : Placed) : Type 0 where
   pub usable : UsableStore words
   pub reads : treeOf words ≡ some placed
   -- the tree of instantiated blocks of its own pixels
-  pub is-tree : forestOf placed ≡ tree (panelOf (sizesOf words)) (member (pixels placed))
-  pub fits : length (pixels placed) ≤ getD words 3 0
+  pub is-tree : unlabelled placed ≡ tree (panelOf (sizesOf words)) (member (pixels placed))
+  pub fits : length (pixels placed) ≤ sizesOf words .most
   -- unused slots are all available again
   pub free : List ℕ
-  pub chain : FreeSlots (slotWidth (getD words 2 0)) words free
-  pub shared : SlotsShared (slotCount (getD words 2 0) (getD words 3 0)) (slotsOf placed) free
+  pub chain : FreeSlots (slotWidth (sizesOf words .k)) words free
+  pub shared : SlotsShared (slotCount (sizesOf words .k) (sizesOf words .most)) (slotsOf placed) free
   -- word 6 is the number of pixels
-  pub counted : getD words 6 0 ≡ length (pixels placed)
+  pub counted : pixelsWord words ≡ length (pixels placed)
 
 -- a sound store that holds this set of pixels
 pub record Holds (words set : List ℕ) : Type 0 where
   pub placed : Placed
   pub sound : Sound words placed
   pub set-is : pixels placed ≡ set
+
+-- the store is sound: it is so with some tree
+pub record IsSound (words : List ℕ) : Type 0 where
+  pub placed : Placed
+  pub sound : Sound words placed

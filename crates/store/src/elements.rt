@@ -2,8 +2,16 @@ ghost use Prim.Native.Nat.{_+_, _*_, _≤_, _<_};
 ghost use mathlib.Core.Path.{_≡_};
 ghost use lib.ListN.{length, drop};
 ghost use lib.Seq.{paste};
-ghost use Rattle.store.specs.Element.{elementAt};
+ghost use Rattle.store.specs.Element.{blockTag, elementOf, elementAt};
 ghost use Rattle.store.specs.Splice.{PlaceOf, CanSplice, Spliced, withHeader};
+ghost use Rattle.measures.specs.Layout.{mostElementWords, mostElements, mostSlots};
+ghost use Rattle.measures.specs.Slot.{elementIndex, slotHead};
+use measures::slots::CODE;
+use measures::slots::COUNT;
+use measures::slots::ELEMENT_BEFORE;
+use measures::slots::LEVEL;
+use measures::slots::MOST_ELEMENT_WORDS;
+use measures::slots::SLOT_HEAD;
 use measures::slots::wide;
 
 // 01: an element is either a pixel with its code or a block with its slot.
@@ -12,33 +20,48 @@ pub enum Element {
     Block { slot: u32, level: u32, code: u32 },
 }
 
+// The tag of a block's element has its slot below this number and its level above it.
+const TAG_SLOTS: u32 = 1048576;
+
+// A block's element as its second word.
+pub fn block_tag(slot: u32, level: u32) -> u32
+    requires { ⌜ (slot ≤ mostSlots) × (level ≤ 16) ⌝ }
+    ensures { λ r. ⌜ r ≡ blockTag slot level ⌝ }
+{
+    1 + slot + level * TAG_SLOTS
+}
+
+// What the two words of an element say.
+fn element_of(code: u32, tag: u32) -> Element
+    ensures { λ r. ⌜ r ≡ elementOf code tag ⌝ }
+{
+    if tag == 0 {
+        return Element::Pixel(code);
+    }
+    let rest = tag - 1;
+    Element::Block {
+        slot: rest % TAG_SLOTS,
+        level: rest / TAG_SLOTS,
+        code,
+    }
+}
+
 pub fn element_at(part: &[u32], i: usize) -> Element
-    requires { ⌜ 8 + 2 * i + 2 ≤ length (now part) ⌝ }
+    requires { ⌜ elementIndex i + 2 ≤ length (now part) ⌝ }
     ensures { λ r. ⌜ r ≡ elementAt (now (part .entry)) i ⌝ }
 {
-    let at = 8 + 2 * i;
-    let code = part[at];
-    let tag = part[at + 1];
-    if tag == 0 {
-        Element::Pixel(code)
-    } else {
-        let rest = tag - 1;
-        Element::Block {
-            slot: rest % 1048576,
-            level: rest / 1048576,
-            code,
-        }
-    }
+    let at = SLOT_HEAD + 2 * i;
+    element_of(part[at], part[at + 1])
 }
 
 // How many of the first elements have a code up to the given one, where they ascend: from the last one back, since a slot has few.
 pub fn find_place(part: &[u32], count: usize, code: u32) -> usize
-    requires { ⌜ (8 + 2 * count ≤ length (now part)) × (count ≤ 100) ⌝ }
+    requires { ⌜ (elementIndex count ≤ length (now part)) × (count ≤ mostElements) ⌝ }
     ensures { λ r. ⌜ PlaceOf (now (part .entry)) count code r ⌝ }
 {
     let mut place = count;
     while 0 < place {
-        if part[6 + 2 * place] <= code {
+        if part[ELEMENT_BEFORE + 2 * place] <= code {
             return place;
         }
         place -= 1;
@@ -59,10 +82,10 @@ pub fn copy_words(target: &mut [u32], at: usize, source: &[u32], count: usize)
 
 // Words of one slot go elsewhere in it, over their own old place too; the compiler makes one move of the two copies, without the buffer.
 fn move_words(part: &mut [u32], from: usize, to: usize, count: usize)
-    requires { ⌜ ((from + count ≤ length (now part)) × (to + count ≤ length (now part))) × (count ≤ 150) ⌝ }
+    requires { ⌜ ((from + count ≤ length (now part)) × (to + count ≤ length (now part))) × (count ≤ mostElementWords) ⌝ }
     ensures { λ _. ⌜ now (part .exit) ≡ paste (now (part .entry)) to (drop from (now (part .entry))) count ⌝ }
 {
-    let mut aside = [0u32; 150];
+    let mut aside = [0u32; MOST_ELEMENT_WORDS];
     copy_words(&mut aside, 0, &part[from..], count);
     copy_words(part, to, &aside, count);
 }
@@ -72,19 +95,19 @@ pub fn splice(part: &mut [u32], place: usize, removed: usize, source: &[u32], in
     requires { ⌜ CanSplice (now part) (now source) place removed inserted ⌝ }
     ensures { λ _. ⌜ Spliced (now (part .entry)) (now (source .entry)) place removed inserted (now (part .exit)) ⌝ }
 {
-    let count = wide(part[2]);
+    let count = wide(part[COUNT]);
     let left = 2 * (count - place - removed);
-    let at = 8 + 2 * place;
+    let at = SLOT_HEAD + 2 * place;
     move_words(part, at + 2 * removed, at + 2 * inserted, left);
     copy_words(part, at, source, 2 * inserted);
-    part[2] = (count - removed + inserted) as u32;
+    part[COUNT] = (count - removed + inserted) as u32;
 }
 
 pub fn write_header(part: &mut [u32], level: u32, code: u32, count: u32)
-    requires { ⌜ 8 ≤ length (now part) ⌝ }
+    requires { ⌜ slotHead ≤ length (now part) ⌝ }
     ensures { λ _. ⌜ now (part .exit) ≡ withHeader (now (part .entry)) level code count ⌝ }
 {
-    part[0] = level;
-    part[1] = code;
-    part[2] = count;
+    part[LEVEL] = level;
+    part[CODE] = code;
+    part[COUNT] = count;
 }

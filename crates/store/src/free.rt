@@ -2,28 +2,34 @@ ghost use Prim.Native.Nat.{_+_, _<_};
 ghost use Rattle.measures.specs.Layout.{LayoutFits};
 ghost use Rattle.store.specs.FreeSlots.{TookFree, Released};
 use measures::sizes::Layout;
+use measures::slots::NEXT;
 use measures::slots::offset;
 use measures::slots::wide;
+use measures::words::FIRST_FREE;
 
 pub enum FreeSlot {
     Taken(u32),
     Missing,
 }
 
+// The end of the chain of free slots.
+pub const NO_SLOT: u32 = 0xFFFFFFFF;
+
 // The first free slot, taken out of the chain.
 pub fn take_free(store: &mut [u32], layout: Layout) -> FreeSlot
     requires { ⌜ LayoutFits layout (now store) ⌝ }
     ensures { λ r. ⌜ TookFree layout (now (store .entry)) (now (store .exit)) r ⌝ }
 {
-    let first = store[7];
+    let first = store[FIRST_FREE];
     if layout.slots <= wide(first) {
         return FreeSlot::Missing;
     }
     let at = offset(layout, wide(first));
+    // The level is a slot's first word.
     if store[at] != 0 {
         return FreeSlot::Missing;
     }
-    store[7] = store[at + 3];
+    store[FIRST_FREE] = store[at + NEXT];
     FreeSlot::Taken(first)
 }
 
@@ -34,6 +40,6 @@ pub fn release(store: &mut [u32], layout: Layout, slot: usize)
 {
     let at = offset(layout, slot);
     store[at] = 0;
-    store[at + 3] = store[7];
-    store[7] = slot as u32;
+    store[at + NEXT] = store[FIRST_FREE];
+    store[FIRST_FREE] = slot as u32;
 }

@@ -4,17 +4,21 @@ ghost use Rattle.measures.specs.Sizes.{UsableStore, sizesOf};
 ghost use Rattle.measures.specs.Layout.{LayoutFits};
 ghost use Rattle.store.specs.Emptied.{AllFree, Emptied};
 use crate::elements::write_header;
+use crate::free::NO_SLOT;
 use crate::free::release;
 use measures::sizes::Layout;
 use measures::sizes::Sizes;
 use measures::sizes::layout_of;
+use measures::words::FIRST_FREE;
+use measures::words::HEAD_WORDS;
+use measures::words::PIXELS;
 
 // Every slot but the root's is put into the chain.
 fn free_all(store: &mut [u32], layout: Layout)
     requires { ⌜ LayoutFits layout (now store) ⌝ }
     ensures { λ _. ⌜ AllFree layout (now (store .entry)) (now (store .exit)) ⌝ }
 {
-    store[7] = 0xFFFFFFFF;
+    store[FIRST_FREE] = NO_SLOT;
     let mut slot = layout.slots;
     while 1 < slot {
         slot -= 1;
@@ -30,6 +34,11 @@ pub fn reset(store: &mut [u32], sizes: Sizes)
     let layout = layout_of(sizes);
     let width = layout.width;
     free_all(store, layout);
-    write_header(&mut store[8..8 + width], sizes.order, 0, 0);
-    store[6] = 0;
+    write_header(
+        &mut store[HEAD_WORDS..HEAD_WORDS + width],
+        sizes.order,
+        0,
+        0,
+    );
+    store[PIXELS] = 0;
 }

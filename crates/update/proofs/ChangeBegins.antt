@@ -2,10 +2,10 @@
 use Prim.Native.Nat.{ℕ, zero, suc, _+_, _-_, _*_, _/_, _^_, _≤_, _<_}
 use native.Mathlib.Omega.{arith}
 use mathlib.Core.Path.{_≡_, refl, ap, subst, sym, _∙_}
-use mathlib.Core.Bool.{true, false}
 use mathlib.Core.Logic.{_⊎_, inl, inr}
 use mathlib.Core.List.{List, [], _∷_, _++_, append-assoc}
-use lib.ListN.{length, getD, take, length-append}
+use lib.Dec.{eqb}
+use lib.ListN.{length, take, length-append}
 use Rattle.pktree.specs.Panel.{Aligned}
 use Rattle.pktree.specs.Elements.{pixel, block, _⧺_, size, blockAt, empty}
 use Rattle.pktree.specs.Tree.{pixels}
@@ -26,10 +26,12 @@ use Rattle.store.proofs.FreeChains.{occurrences-join}
 use Rattle.descent.specs.declared.Located.{Located}
 use Rattle.descent.specs.Way.{Frame, plug}
 use Rattle.descent.specs.Located.{LocatedIn}
-use Rattle.change.proofs.FramesOfSound.{OnWay, on-way}
-use Rattle.change.proofs.SlotCounts.{waySlots, plug-slots, shared-moves}
-use Rattle.change.proofs.HandUp.{right-size}
-use Rattle.change.proofs.Pending.{Setting}
+use Rattle.ascent.proofs.FramesOfSound.{OnWay, on-way}
+use Rattle.ascent.proofs.Frames.{waySlots}
+use Rattle.ascent.proofs.SlotCounts.{plug-slots, shared-moves}
+use Rattle.ascent.proofs.HandUp.{right-size}
+use Rattle.ascent.proofs.Pending.{Setting}
+use Rattle.update.specs.Changed.{OnePixel, comes, goes, CountAllows}
 use Rattle.update.specs.Propagate.{PendingAt}
 
 module _ (k c x : ℕ) (h : 2 ≤ k) (above : c ≤ x) where
@@ -73,13 +75,13 @@ plug-around (f ∷ way) =
     )
 
 -- the setting of a change at x on a store, for the set to come
-abbrev pub settingOf : (words : List ℕ) → UsableStore words → (x : ℕ) (target : List ℕ) → length target ≤ getD words 3 0 → Setting
+abbrev pub settingOf : (words : List ℕ) → UsableStore words → (x : ℕ) (target : List ℕ) → length target ≤ sizesOf words .most → Setting
 settingOf words usable x target few =
     record {
       layout = layoutOf (sizesOf words);
-      k = getD words 2 0;
-      m = getD words 1 0;
-      most = getD words 3 0;
+      k = sizesOf words .k;
+      m = sizesOf words .order;
+      most = sizesOf words .most;
       x = x;
       target = target;
       k-from = usable .valid .panel .k-from;
@@ -106,40 +108,53 @@ between-pixels way a b =
           ∙ simp append-assoc),
     )
 
--- what gives way or comes: nothing, or the pixel of the code
-record AtMostPixel (code : ℕ) (t : Placed) : Type 0 where
-  one : size t ≤ 1
-  slots : slotsOf t ≡ []
-  stands : (width : ℕ) (words : List ℕ) → Stands width words t
-  named : take (2 * size t) (code ∷ 0 ∷ []) ≡ elementWords t
+-- the elements that give way or come: none, or the pixel of the code
+abbrev pub pixelsAt : ℕ → ℕ → Placed
+pixelsAt zero code = empty
+pixelsAt (suc n) code = pixel code empty
 
-no-pixel : (code : ℕ) → AtMostPixel code empty
-no-pixel code = record { one = omega arith; slots = refl; stands = λ width words. tt; named = refl }
+pub record AtMostPixel (code n : ℕ) : Type 0 where
+  pub one : n ≤ 1
+  pub size-is : size (pixelsAt n code) ≡ n
+  pub count-is : length (pixels (pixelsAt n code)) ≡ n
+  pub slots : slotsOf (pixelsAt n code) ≡ []
+  pub stands : (width : ℕ) (words : List ℕ) → Stands width words (pixelsAt n code)
+  pub named : take (2 * n) (code ∷ 0 ∷ []) ≡ elementWords (pixelsAt n code)
 
-one-pixel : (code : ℕ) → AtMostPixel code (pixel code empty)
-one-pixel code = record { one = omega arith; slots = refl; stands = λ width words. tt; named = refl }
+no-pixel : (code : ℕ) → AtMostPixel code 0
+no-pixel code = record { one = omega arith; size-is = refl; count-is = refl; slots = refl; stands = λ width words. tt; named = refl }
+
+one-pixel : (code : ℕ) → AtMostPixel code 1
+one-pixel code = record { one = omega arith; size-is = refl; count-is = refl; slots = refl; stands = λ width words. tt; named = refl }
+
+pub at-most-pixel : {out coming : ℕ} (code : ℕ) → OnePixel out coming → AtMostPixel code out × AtMostPixel code coming
+at-most-pixel code comes = (no-pixel code, one-pixel code)
+at-most-pixel code goes = (one-pixel code, no-pixel code)
 
 -- pixels have no slots
-same-slots : (code : ℕ) (a b old new : Placed) → AtMostPixel code old → AtMostPixel code new → slotsOf (a ⧺ (new ⧺ b)) ≡ slotsOf (a ⧺ (old ⧺ b))
-same-slots code a b old new o n =
+same-slots : (code : ℕ) (a b : Placed) (out coming : ℕ) → AtMostPixel code out → AtMostPixel code coming
+    → slotsOf (a ⧺ (pixelsAt coming code ⧺ b)) ≡ slotsOf (a ⧺ (pixelsAt out code ⧺ b))
+same-slots code a b out coming o n =
+    let old : Placed = pixelsAt out code in
+    let new : Placed = pixelsAt coming code in
     slots-join a (new ⧺ b) ∙ ap (λ (l : List ℕ). slotsOf a ++ l) (slots-join new b ∙ ap (λ (l : List ℕ). l ++ slotsOf b) (n .slots ∙ sym (o .slots)) ∙ sym (slots-join old b))
     ∙ sym (slots-join a (old ⧺ b))
 
--- the change is pending: where the pixels of `old` stood among those of the set, those of `new` are to stand
-pub record Begins (words : List ℕ) (usable : UsableStore words) (set : List ℕ) (code : ℕ) (slots places : List ℕ) (located : Located) (old new : Placed) : Type 0 where
+-- the change is pending: where so many pixels of the code stood in the set, so many are to stand
+pub record Begins (words : List ℕ) (usable : UsableStore words) (set : List ℕ) (code : ℕ) (slots places : List ℕ) (located : Located) (out coming : ℕ) : Type 0 where
   pub left : List ℕ
   pub right : List ℕ
-  pub set-was : set ≡ left ++ (pixels old ++ right)
-  pub few : length (left ++ (pixels new ++ right)) ≤ getD words 3 0
-  pub pending : PendingAt (settingOf words usable code (left ++ (pixels new ++ right)) few) words slots places (located .depth) (located .slot) (located .place)
-      (size old) (size new) (code ∷ 0 ∷ [])
+  pub set-was : set ≡ left ++ (pixels (pixelsAt out code) ++ right)
+  pub few : length (left ++ (pixels (pixelsAt coming code) ++ right)) ≤ sizesOf words .most
+  pub pending : PendingAt (settingOf words usable code (left ++ (pixels (pixelsAt coming code) ++ right)) few) words slots places (located .depth) (located .slot) (located .place)
+      out coming (code ∷ 0 ∷ [])
 
 module _ (words : List ℕ) (placed : Placed) (sound : Sound words placed) (code : ℕ) {slots places : List ℕ} (located : Located) (h : LocatedIn words placed code slots places located) where
   abbrev k : ℕ
-  k = getD words 2 0
+  k = sizesOf words .k
 
   abbrev width : ℕ
-  width = slotWidth (getD words 2 0)
+  width = slotWidth (sizesOf words .k)
 
   abbrev a : Placed
   a = h .place .before
@@ -150,12 +165,14 @@ module _ (words : List ℕ) (placed : Placed) (sound : Sound words placed) (code
   there : OnWay words placed sound (h .way) (located .slot) (located .level) (located .block) (h .es)
   there = on-way words placed sound (h .way) (located .slot) (located .level) (located .block) (h .es) (h .whole)
 
-  begins : (old new : Placed) → AtMostPixel code old → AtMostPixel code new → h .es ≡ a ⧺ (old ⧺ b)
-      → Disturbed k (quarterLevel (located .level)) (located .block) code (a ⧺ (new ⧺ b))
-      → (size new ≡ 0 → LocallyRight k (located .level) (located .block) (a ⧺ (new ⧺ b)))
-      → length (pixels placed) + length (pixels new) ≤ length (pixels old) + getD words 3 0
-      → Begins words (sound .usable) (pixels placed) code slots places located old new
-  begins old new o n e disturbed right-if-none room =
+  begins : (out coming : ℕ) → AtMostPixel code out × AtMostPixel code coming → h .es ≡ a ⧺ (pixelsAt out code ⧺ b)
+      → Disturbed k (quarterLevel (located .level)) (located .block) code (a ⧺ (pixelsAt coming code ⧺ b))
+      → (size (pixelsAt coming code) ≡ 0 → LocallyRight k (located .level) (located .block) (a ⧺ (pixelsAt coming code ⧺ b)))
+      → length (pixels placed) + coming ≤ out + sizesOf words .most
+      → Begins words (sound .usable) (pixels placed) code slots places located out coming
+  begins out coming (o, n) e disturbed right-if-none room =
+      let old : Placed = pixelsAt out code in
+      let new : Placed = pixelsAt coming code in
       let (l, r, pix) = between-pixels (h .way) a b in
       let target : List ℕ = l ++ (pixels new ++ r) in
       let whole : placed ≡ plug (h .way) (located .slot) (located .level) (located .block) (a ⧺ (old ⧺ b)) =
@@ -176,6 +193,8 @@ module _ (words : List ℕ) (placed : Placed) (sound : Sound words placed) (code
           length-append (pixels old) r,
           length-append l (pixels new ++ r),
           length-append (pixels new) r,
+          o .count-is,
+          n .count-is,
         );
         pending = record {
           way = h .way;
@@ -189,8 +208,8 @@ module _ (words : List ℕ) (placed : Placed) (sound : Sound words placed) (code
           depth-is = h .depth;
           names = h .names;
           place-is = h .place .place-is;
-          removed-is = refl;
-          inserted-is = refl;
+          removed-is = o .size-is;
+          inserted-is = n .size-is;
           scratch-is = n .named;
           pending = record {
             around = record {
@@ -203,6 +222,7 @@ module _ (words : List ℕ) (placed : Placed) (sound : Sound words placed) (code
                 arith,
                 sound .usable .valid .panel .k-from,
                 n .one,
+                n .size-is,
                 size-join a (new ⧺ b),
                 size-join new b,
                 size-join a (old ⧺ b),
@@ -210,12 +230,12 @@ module _ (words : List ℕ) (placed : Placed) (sound : Sound words placed) (code
               );
               some = some-left (there .enough);
               free-chain = sound .chain;
-              shared = shared-moves (slotCount k (getD words 3 0)) (slotsOf placed) (sound .free) (waySlots (h .way) ++ (located .slot ∷ slotsOf (a ⧺ (new ⧺ b)))) (sound .free) (sound .shared)
+              shared = shared-moves (slotCount k (sizesOf words .most)) (slotsOf placed) (sound .free) (waySlots (h .way) ++ (located .slot ∷ slotsOf (a ⧺ (new ⧺ b)))) (sound .free) (sound .shared)
                   (λ t. omega (
                     arith,
                     ap (λ (u : Placed). occurrences t (slotsOf u)) whole,
                     plug-slots t (h .way) (located .slot) (located .level) (located .block) (a ⧺ (old ⧺ b)),
-                    ap (λ (l : List ℕ). occurrences t (located .slot ∷ l)) (same-slots code a b old new o n),
+                    ap (λ (l : List ℕ). occurrences t (located .slot ∷ l)) (same-slots code a b out coming o n),
                     occurrences-join t (slotsOf placed) (sound .free),
                     occurrences-join t (waySlots (h .way) ++ (located .slot ∷ slotsOf (a ⧺ (new ⧺ b)))) (sound .free),
                     occurrences-join t (waySlots (h .way)) (located .slot ∷ slotsOf (a ⧺ (new ⧺ b))),
@@ -229,41 +249,39 @@ module _ (words : List ℕ) (placed : Placed) (sound : Sound words placed) (code
         };
       }
     where
-      some-left : (located .level ≡ getD words 1 0) ⊎ (k ≤ size (h .es)) → (located .level ≡ getD words 1 0) ⊎ (1 ≤ size (a ⧺ (new ⧺ b)))
+      some-left : (located .level ≡ sizesOf words .order) ⊎ (k ≤ size (h .es)) → (located .level ≡ sizesOf words .order) ⊎ (1 ≤ size (a ⧺ (pixelsAt coming code ⧺ b)))
       some-left (inl q) = inl q
       some-left (inr q) =
           inr (omega (
             arith,
             sound .usable .valid .panel .k-from,
             o .one,
+            o .size-is,
             ap size e,
-            size-join a (new ⧺ b),
-            size-join new b,
-            size-join a (old ⧺ b),
-            size-join old b,
+            size-join a (pixelsAt coming code ⧺ b),
+            size-join (pixelsAt coming code) b,
+            size-join a (pixelsAt out code ⧺ b),
+            size-join (pixelsAt out code) b,
           ))
 
-  -- the pixel is to be put in, with room for it
-  pub mark-begins : located .marked ≡ false → length (pixels placed) < getD words 3 0
-      → Begins words (sound .usable) (pixels placed) code slots places located empty (pixel code empty)
-  mark-begins out room =
-      let e : h .es ≡ a ⧺ b = h .place .is .1 out in
-      begins empty (pixel code empty) (no-pixel code) (one-pixel code) e
+  -- the pixel is to be put in, with room for it, or to be taken out
+  pub change-begins : {out coming : ℕ} (one : OnePixel out coming) → located .marked ≡ eqb out 1 → CountAllows one (length (pixels placed)) (sizesOf words .most)
+      → Begins words (sound .usable) (pixels placed) code slots places located out coming
+  change-begins comes absent room =
+      let e : h .es ≡ a ⧺ b = h .place .is .1 absent in
+      begins 0 1 (at-most-pixel code comes) e
       (put-disturbs k (located .block) code (sound .usable .valid .panel .k-from) (h .holds .0) (located .level) a b
       (there .view .level-from) (there .view .aligned) (h .holds .1) (subst (LocallyRight k (located .level) (located .block)) e (there .view .right))
       (h .place .below) (h .place .above))
       (λ none. absurd (omega arith))
       (omega arith)
-
-  -- the pixel is to be taken out
-  pub clear-begins : located .marked ≡ true → Begins words (sound .usable) (pixels placed) code slots places located (pixel code empty) empty
-  clear-begins in-set =
-      let e : h .es ≡ a ⧺ pixel code b = h .place .is .0 in-set in
+  change-begins goes present counted =
+      let e : h .es ≡ a ⧺ pixel code b = h .place .is .0 present in
       let right : LocallyRight k (located .level) (located .block) (a ⧺ b) =
       taken-right k (located .block) code (sound .usable .valid .panel .k-from) (h .holds .0) (located .level) a b
       (there .view .level-from) (there .view .aligned) (h .holds .1) (subst (LocallyRight k (located .level) (located .block)) e (there .view .right))
       (h .place .below) (h .place .above) in
-      begins (pixel code empty) empty (one-pixel code) (no-pixel code) e
+      begins 1 0 (at-most-pixel code goes) e
       (disturbed-if-right k (located .block) code (sound .usable .valid .panel .k-from) (h .holds .0) (located .level) (a ⧺ b)
       (there .view .level-from) (there .view .aligned) (h .holds .1) right)
       (λ none. right)

@@ -1,3 +1,4 @@
 pub mod Propagation
 pub mod ChangeBegins
 pub mod ChangeEnds
+pub mod MarkAndClear

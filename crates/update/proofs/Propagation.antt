@@ -13,22 +13,23 @@ use Rattle.measures.specs.declared.sizes.Layout.{Layout}
 use Rattle.measures.specs.Layout.{LayoutFits}
 use Rattle.descent.specs.Way.{Frame}
 use Rattle.descent.specs.Located.{PathNames}
-use Rattle.change.proofs.Pending.{Setting, Pending}
-use Rattle.change.proofs.Completed.{Completed}
+use Rattle.ascent.proofs.Pending.{Setting, Pending}
+use Rattle.ascent.proofs.Completed.{Completed}
 use Rattle.step.specs.declared.Change.{Change}
 use Rattle.step.specs.declared.Stepped.{Stepped}
 use Rattle.step.specs.declared.Stepped.the-variants.{Done, Up, Damaged}
-use Rattle.step.specs.Step.{Kept, InSetting, SteppedRight, StepMeets}
+use Rattle.step.specs.Step.{mostHandedUp, Kept, InSetting, SteppedRight, StepMeets}
 use Rattle.update.specs.Propagate.{PendingAt, OfChange}
+use Rattle.rewrite.specs.Rewrite.{scratchWords}
 
 -- what holds at each turn, on any words
 pub record InBounds (change : Change) (path words scratch : List ℕ) (depth slot place out coming : ℕ) : Type 0 where
   pub fits : LayoutFits (change .layout) words
-  pub scratch-long : length scratch ≡ 32
+  pub scratch-long : length scratch ≡ scratchWords
   pub slot-below : slot < change .layout .slots
   pub place-to : place ≤ 75
   pub out-to : out ≤ 1
-  pub coming-to : coming ≤ 16
+  pub coming-to : coming ≤ mostHandedUp
   pub deep : depth ≤ 16
   pub path-below : (i : ℕ) → i < depth → getD path i 0 < change .layout .slots
 
@@ -60,7 +61,7 @@ place-small : (σ : Setting) (words path places : List ℕ) (depth slot place ou
 place-small σ words path places depth slot place out coming scratch p =
     omega (arith, p .place-is, p .pending .was-fit, σ .k-to, size-join (p .a) (p .old ⧺ p .b))
 
-module _ (change : Change) (path places words scratch after scratch′ : List ℕ) (depth slot place out coming : ℕ) (r : Stepped)
+module _ {change : Change} {path places words scratch after scratch′ : List ℕ} {depth slot place out coming : ℕ} {r : Stepped}
     (m : StepMeets change (eqb depth 0) slot place out coming words after scratch scratch′ r) where
   -- what the step leaves in a setting
   stepped : (σ : Setting) → OfChange σ change → (p : PendingAt σ words path places depth slot place out coming scratch) → SteppedRight σ after scratch′ (p .way) slot r

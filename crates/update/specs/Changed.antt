@@ -1,50 +1,88 @@
 -- What mark and clear answer, and what they leave, where refusals 3 and 4 do not apply.
-use Prim.Native.Nat.{ℕ, _≤_, _<_}
+use Prim.Native.Nat.{ℕ, zero, suc, _≤_, _<_}
 use mathlib.Core.Path.{_≡_}
-use mathlib.Core.Bool.{true, false}
+use mathlib.Core.Bool.{Bool, true, false, not}
 use mathlib.Core.List.{List}
+use lib.Dec.{eqb}
 use lib.ListN.{length, getD, drop}
+use Rattle.pktree.specs.Panel.{OnPanel}
 use Rattle.pktree.specs.PixelSet.{member, added, removed}
-use Rattle.measures.specs.Sizes.{slotWidth, sizesOf, storeWords}
+use Rattle.measures.specs.Words.{pixelsWord}
+use Rattle.measures.specs.declared.sizes.Sizes.{Sizes}
+use Rattle.measures.specs.Sizes.{UsableStore, panelOf, slotWidth, sizesOf, storeWords}
 use Rattle.store.specs.Opening.{CannotOpen}
 use Rattle.store.specs.Sound.{Holds}
+use Rattle.update.specs.declared.marks.Changing.{Changing}
+use Rattle.update.specs.declared.marks.Changing.the-variants as changing
 use Rattle.update.specs.declared.marks.Marking.{Marking}
 use Rattle.update.specs.declared.marks.Marking.the-variants as marking
 use Rattle.update.specs.declared.marks.Clearing.{Clearing}
 use Rattle.update.specs.declared.marks.Clearing.the-variants as clearing
 
--- how mark and clear end: the set is changed; or it is not (5, 6 and 7); or the words are damaged (13)
-pub data Ending : Type 0 where
-  changed : Ending
-  unchanged : Ending
-  damaged : Ending
+-- what is left of any store, by how the change ends: done; refused, with 5, 6 or 7; or damage met, with 13
+abbrev pub Leaves : List ℕ → List ℕ → Changing → Type 0
+Leaves before after changing.Changed = Unit {0}
+Leaves before after changing.Already = after ≡ before
+Leaves before after changing.Disallowed = after ≡ before
+Leaves before after changing.Damaged = getD after 0 0 ≡ 0
 
--- what is left of any store
-abbrev pub Leaves : List ℕ → List ℕ → Ending → Type 0
-Leaves before after changed = Unit {0}
-Leaves before after unchanged = after ≡ before
-Leaves before after damaged = getD after 0 0 ≡ 0
+-- how a change ends, by the number that tells it
+abbrev pub endingOf : ℕ → Changing
+endingOf zero = changing.Changed
+endingOf (suc zero) = changing.Already
+endingOf (suc (suc zero)) = changing.Disallowed
+endingOf (suc (suc (suc n))) = changing.Damaged
 
 -- what mark and clear ensure alike; `Case` says of a sound store what holds where it has this set
-pub record ChangeAnswer (Case : List ℕ → Type 0) (before after : List ℕ) (ending : Ending) : Type 0 where
+pub record ChangeAnswer (Case : List ℕ → Type 0) (before after : List ℕ) (ending : Changing) : Type 0 where
   pub sound : (set : List ℕ) → Holds before set → Case set
   pub leaves : Leaves before after ending
-  pub closed : CannotOpen (slotWidth (getD before 2 0)) before 0 (getD before 1 0) 0 → ending ≡ damaged
+  pub closed : CannotOpen (slotWidth (sizesOf before .k)) before 0 (sizesOf before .order) 0 → ending ≡ changing.Damaged
   pub long : length after ≡ length before
   pub past : drop (storeWords (sizesOf before)) after ≡ drop (storeWords (sizesOf before)) before
 
+-- the elements at the pixel that a change takes out and puts in: one comes (mark), or one goes (clear)
+pub data OnePixel : ℕ → ℕ → Type 0 where
+  comes : OnePixel 0 1
+  goes : OnePixel 1 0
+
+-- the set afterwards, by the elements taken out
+abbrev pub exchanged : ℕ → ℕ → List ℕ → List ℕ
+exchanged zero code set = added code set
+exchanged (suc n) code set = removed code set
+
+-- the number of pixels held lets the pixel come, or go
+abbrev pub CountAllows : {out coming : ℕ} → OnePixel out coming → ℕ → ℕ → Type 0
+CountAllows comes held most = held < most
+CountAllows goes held most = 0 < held
+
+pub record CanChange (words : List ℕ) (sizes : Sizes) (code : ℕ) (allowed : Bool) (out coming : ℕ) : Type 0 where
+  pub given : (UsableStore words × (sizes ≡ sizesOf words)) × OnPanel (panelOf sizes) code
+  pub one : OnePixel out coming
+  pub allows : allowed ≡ true → CountAllows one (pixelsWord words) (sizes .most)
+
+abbrev pub ChangeCase : List ℕ → List ℕ → ℕ → Bool → ℕ → Changing → List ℕ → Type 0
+ChangeCase before after code allowed out changing.Changed set =
+    (member set code ≡ eqb out 1) × (allowed ≡ true) × Holds after (exchanged out code set) × (sizesOf after ≡ sizesOf before)
+ChangeCase before after code allowed out changing.Already set = (member set code ≡ not (eqb out 1)) × (after ≡ before)
+ChangeCase before after code allowed out changing.Disallowed set = (member set code ≡ eqb out 1) × (allowed ≡ false) × (after ≡ before)
+ChangeCase before after code allowed out changing.Damaged set = ⊥
+
+abbrev pub ChangeMeets : List ℕ → List ℕ → ℕ → Bool → ℕ → Changing → Type 0
+ChangeMeets before after code allowed out r = ChangeAnswer (ChangeCase before after code allowed out r) before after r
+
 abbrev pub MarkCase : List ℕ → List ℕ → ℕ → Marking → List ℕ → Type 0
 MarkCase before after code marking.Marked set =
-    (member set code ≡ false) × (length set < getD before 3 0) × Holds after (added code set) × (sizesOf after ≡ sizesOf before)
+    (member set code ≡ false) × (length set < sizesOf before .most) × Holds after (added code set) × (sizesOf after ≡ sizesOf before)
 MarkCase before after code marking.Already set = (member set code ≡ true) × (after ≡ before)
-MarkCase before after code marking.Full set = (member set code ≡ false) × (getD before 3 0 ≤ length set) × (after ≡ before)
+MarkCase before after code marking.Full set = (member set code ≡ false) × (sizesOf before .most ≤ length set) × (after ≡ before)
 MarkCase before after code marking.Damaged set = ⊥
 
-abbrev pub markEnding : Marking → Ending
-markEnding marking.Marked = changed
-markEnding marking.Already = unchanged
-markEnding marking.Full = unchanged
-markEnding marking.Damaged = damaged
+abbrev pub markEnding : Marking → Changing
+markEnding marking.Marked = changing.Changed
+markEnding marking.Already = changing.Already
+markEnding marking.Full = changing.Disallowed
+markEnding marking.Damaged = changing.Damaged
 
 abbrev pub MarkAnswer : List ℕ → List ℕ → ℕ → Marking → Type 0
 MarkAnswer before after code r = ChangeAnswer (MarkCase before after code r) before after (markEnding r)
@@ -54,10 +92,10 @@ ClearCase before after code clearing.Cleared set = (member set code ≡ true) ×
 ClearCase before after code clearing.Unmarked set = (member set code ≡ false) × (after ≡ before)
 ClearCase before after code clearing.Damaged set = ⊥
 
-abbrev pub clearEnding : Clearing → Ending
-clearEnding clearing.Cleared = changed
-clearEnding clearing.Unmarked = unchanged
-clearEnding clearing.Damaged = damaged
+abbrev pub clearEnding : Clearing → Changing
+clearEnding clearing.Cleared = changing.Changed
+clearEnding clearing.Unmarked = changing.Already
+clearEnding clearing.Damaged = changing.Damaged
 
 abbrev pub ClearAnswer : List ℕ → List ℕ → ℕ → Clearing → Type 0
 ClearAnswer before after code r = ChangeAnswer (ClearCase before after code r) before after (clearEnding r)

@@ -5,14 +5,14 @@ use mathlib.Core.Bool.{Bool, true}
 use mathlib.Core.List.{List, [], _∷_}
 use lib.ListN.{length, getD, take}
 use Rattle.pktree.specs.Elements.{size}
-use Rattle.measures.specs.Layout.{LayoutFits}
+use Rattle.measures.specs.Layout.{LayoutFits, mostElements}
 use Rattle.store.specs.Placed.{Placed}
 use Rattle.store.proofs.Standing.{elementWords}
 use Rattle.descent.specs.declared.Located.{Located}
 use Rattle.descent.specs.Way.{Frame}
 use Rattle.descent.specs.Located.{PathNames}
-use Rattle.change.proofs.Pending.{Setting, Pending}
-use Rattle.change.proofs.Completed.{Completed}
+use Rattle.ascent.proofs.Pending.{Setting, Pending}
+use Rattle.ascent.proofs.Completed.{Completed}
 use Rattle.step.specs.declared.Change.{Change}
 use Rattle.step.specs.Step.{Kept}
 use Rattle.update.specs.declared.propagate.Parent.{Parent}
@@ -21,8 +21,8 @@ use Rattle.update.specs.declared.propagate.Parent.the-variants.{Block, N
 -- the parent of the block at this depth, as the path names it
 abbrev pub ParentIs : List ℕ → List ℕ → ℕ → Parent → Type 0
 ParentIs slots places depth (Block slot place) =
-    (0 < depth) × (slot ≡ getD slots (depth - 1) 0) × (place ≡ getD places (depth - 1) 0) × (place ≤ 75)
-ParentIs slots places depth Nothing = 0 < depth → 75 < getD places (depth - 1) 0
+    (0 < depth) × (slot ≡ getD slots (depth - 1) 0) × (place ≡ getD places (depth - 1) 0) × (place ≤ mostElements)
+ParentIs slots places depth Nothing = 0 < depth → mostElements < getD places (depth - 1) 0
 
 pub record CanPropagate (change : Change) (words : List ℕ) (located : Located) (slots : List ℕ) (removed inserted : ℕ) : Type 0 where
   pub fits : LayoutFits (change .layout) words
@@ -31,7 +31,7 @@ pub record CanPropagate (change : Change) (words : List ℕ) (located : Located)
   pub slot-below : located .slot < change .layout .slots
   pub deep : located .depth ≤ 16
   pub path-below : (i : ℕ) → i < located .depth → getD slots i 0 < change .layout .slots
-  pub place-to : located .place ≤ 75
+  pub place-to : located .place ≤ mostElements
   pub removed-to : removed ≤ 1
   pub inserted-to : inserted ≤ 1
 

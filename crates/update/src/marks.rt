@@ -1,13 +1,84 @@
 ghost use mathlib.Core.Path.{_≡_};
 ghost use Rattle.pktree.specs.Panel.{OnPanel};
 ghost use Rattle.measures.specs.Sizes.{UsableStore, panelOf, sizesOf};
-ghost use Rattle.update.specs.Changed.{MarkAnswer, ClearAnswer};
+ghost use Rattle.update.specs.Changed.{CanChange, ChangeMeets, endingOf, MarkAnswer, ClearAnswer};
 use crate::propagate::propagate;
+use descent::PATH_LENGTH;
 use descent::locate;
 use measures::sizes::Sizes;
 use measures::sizes::layout_of;
 use measures::slots::wide;
+use measures::words::PIXELS;
+use measures::words::REGISTER_MARK;
 use step::Change;
+
+// How the change of one pixel ends. It is disallowed where the number of pixels held does not let one come, or go.
+pub enum Changing {
+    Changed,
+    Already,
+    Disallowed,
+    Damaged,
+}
+
+// `change_pixel` tells the end by a number: a number is answered in a register, an enum through memory.
+const CHANGED: u32 = 0;
+
+const ALREADY: u32 = 1;
+
+const DISALLOWED: u32 = 2;
+
+const DAMAGED: u32 = 3;
+
+fn ending(number: u32) -> Changing
+    ensures { λ r. ⌜ r ≡ endingOf number ⌝ }
+{
+    match number {
+        CHANGED => Changing::Changed,
+        ALREADY => Changing::Already,
+        DISALLOWED => Changing::Disallowed,
+        _ => Changing::Damaged,
+    }
+}
+
+// Mark and clear are one change, with another number of elements in and out. Nothing is written before every refusal is decided.
+fn change_pixel(
+    store: &mut [u32],
+    sizes: Sizes,
+    code: u32,
+    allowed: bool,
+    removed: usize,
+    inserted: usize,
+) -> u32
+    requires { ⌜ CanChange (now store) sizes code allowed removed inserted ⌝ }
+    ensures { λ r. ⌜ ChangeMeets (now (store .entry)) (now (store .exit)) code allowed removed (endingOf r) ⌝ }
+{
+    let layout = layout_of(sizes);
+    let mut slots = [0u32; PATH_LENGTH];
+    let mut places = [0u32; PATH_LENGTH];
+    let located = locate(store, layout, sizes.order, code, &mut slots, &mut places);
+    if located.damaged {
+        store[REGISTER_MARK] = 0;
+        return DAMAGED;
+    }
+    if located.marked != (removed == 1) {
+        return ALREADY;
+    }
+    if !allowed {
+        return DISALLOWED;
+    }
+    let held = wide(store[PIXELS]);
+    let change = Change {
+        layout,
+        k: wide(sizes.k),
+        code,
+    };
+    if !propagate(store, change, located, &slots, &places, removed, inserted) {
+        store[REGISTER_MARK] = 0;
+        return DAMAGED;
+    }
+    store[PIXELS] = (held - removed + inserted) as u32;
+    CHANGED
+}
 
 pub enum Marking {
     Marked,
@@ -16,37 +87,18 @@ pub enum Marking {
     Damaged,
 }
 
-// 01's mark, where refusals 3 and 4 do not apply. Nothing is written before every refusal is decided.
+// 01's mark, where refusals 3 and 4 do not apply.
 pub fn mark(store: &mut [u32], sizes: Sizes, code: u32) -> Marking
     requires { ⌜ (UsableStore (now store) × (sizes ≡ sizesOf (now store))) × OnPanel (panelOf sizes) code ⌝ }
     ensures { λ r. ⌜ MarkAnswer (now (store .entry)) (now (store .exit)) code r ⌝ }
 {
-    let layout = layout_of(sizes);
-    let mut slots = [0u32; 17];
-    let mut places = [0u32; 17];
-    let located = locate(store, layout, sizes.order, code, &mut slots, &mut places);
-    if located.damaged {
-        store[0] = 0;
-        return Marking::Damaged;
+    let room = store[PIXELS] < sizes.most;
+    match ending(change_pixel(store, sizes, code, room, 0, 1)) {
+        Changing::Changed => Marking::Marked,
+        Changing::Already => Marking::Already,
+        Changing::Disallowed => Marking::Full,
+        Changing::Damaged => Marking::Damaged,
     }
-    if located.marked {
-        return Marking::Already;
-    }
-    let held = store[6];
-    if sizes.most <= held {
-        return Marking::Full;
-    }
-    let change = Change {
-        layout,
-        k: wide(sizes.k),
-        code,
-    };
-    if !propagate(store, change, located, &slots, &places, 0, 1) {
-        store[0] = 0;
-        return Marking::Damaged;
-    }
-    store[6] = held + 1;
-    Marking::Marked
 }
 
 pub enum Clearing {
@@ -55,36 +107,19 @@ pub enum Clearing {
     Damaged,
 }
 
-// 01's clear, where refusals 3 and 4 do not apply.
+// 01's clear, where refusals 3 and 4 do not apply. A pixel that is there is counted.
 pub fn clear(store: &mut [u32], sizes: Sizes, code: u32) -> Clearing
     requires { ⌜ (UsableStore (now store) × (sizes ≡ sizesOf (now store))) × OnPanel (panelOf sizes) code ⌝ }
     ensures { λ r. ⌜ ClearAnswer (now (store .entry)) (now (store .exit)) code r ⌝ }
 {
-    let layout = layout_of(sizes);
-    let mut slots = [0u32; 17];
-    let mut places = [0u32; 17];
-    let located = locate(store, layout, sizes.order, code, &mut slots, &mut places);
-    if located.damaged {
-        store[0] = 0;
-        return Clearing::Damaged;
+    let counted = 0 < store[PIXELS];
+    match ending(change_pixel(store, sizes, code, counted, 1, 0)) {
+        Changing::Changed => Clearing::Cleared,
+        Changing::Already => Clearing::Unmarked,
+        Changing::Disallowed => {
+            store[REGISTER_MARK] = 0;
+            Clearing::Damaged
+        }
+        Changing::Damaged => Clearing::Damaged,
     }
-    if !located.marked {
-        return Clearing::Unmarked;
-    }
-    let held = store[6];
-    if held == 0 {
-        store[0] = 0;
-        return Clearing::Damaged;
-    }
-    let change = Change {
-        layout,
-        k: wide(sizes.k),
-        code,
-    };
-    if !propagate(store, change, located, &slots, &places, 1, 0) {
-        store[0] = 0;
-        return Clearing::Damaged;
-    }
-    store[6] = held - 1;
-    Clearing::Cleared
 }

@@ -1,7 +1,7 @@
 -- Each way out of `enter`.
 use Prim.Native.Nat.{ℕ, _≤_, _<_}
 use native.Mathlib.Omega.{arith}
-use mathlib.Core.Path.{_≡_, refl, subst, subst₂}
+use mathlib.Core.Path.{_≡_, subst}
 use mathlib.Core.List.{List}
 use Rattle.pktree.proofs.Absurd.{zero-is-not-one}
 use Rattle.measures.specs.declared.sizes.Layout.{Layout}
@@ -9,7 +9,7 @@ use Rattle.measures.specs.Layout.{LayoutFits}
 use Rattle.measures.specs.Slot.{slotPart}
 use Rattle.store.specs.Opening.{Opened}
 use Rattle.store.specs.declared.opening.Opening.{Opening}
-use Rattle.store.specs.declared.opening.Opening.the-variants.{Elements, Damaged}
+use Rattle.store.specs.declared.opening.Opening.the-variants.{Damaged}
 use Rattle.store.proofs.OpenedSlot.{few-elements}
 use Rattle.walks.specs.Entered.{Entered}
 

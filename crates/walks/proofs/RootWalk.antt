@@ -3,16 +3,14 @@ use Prim.Native.Nat.{ℕ}
 use native.Mathlib.Omega.{arith}
 use mathlib.Core.Path.{_≡_, ap, subst, subst₂, sym, _∙_}
 use mathlib.Core.List.{List}
-use lib.ListN.{getD}
 use Rattle.pktree.specs.PixelSet.{member}
-use Rattle.pktree.specs.Elements.{Forest, empty, block}
+use Rattle.pktree.specs.Elements.{Forest, empty, block, unlabelled}
 use Rattle.pktree.specs.Tree.{tree}
 use Rattle.measures.specs.declared.sizes.Layout.{Layout}
 use Rattle.measures.specs.declared.sizes.Sizes.{Sizes}
-use Rattle.measures.specs.Layout.{layoutOf, LaidOut}
+use Rattle.measures.specs.Layout.{LaidOut, levelAboveRoot}
 use Rattle.measures.specs.Sizes.{panelOf, sizesOf}
 use Rattle.measures.proofs.Usable.{layout-said}
-use Rattle.store.specs.Placed.{forestOf}
 use Rattle.store.specs.Sound.{Holds}
 use Rattle.store.proofs.BlockView.{BlockView, root-view}
 use Rattle.store.proofs.SoundView.{sound-view}
@@ -23,13 +21,13 @@ abbrev pub heldTree : List ℕ → List ℕ → Forest
 heldTree words set = tree (panelOf (sizesOf words)) (member set)
 
 pub root-walked : {S : Type 0} {W : S → Forest → S → Type 0} {layout : Layout} {sizes : Sizes} {words set : List ℕ} {s t : S} → sizes ≡ sizesOf words → LaidOut sizes layout
-    → BlockWalked W layout words 17 0 (sizes .order) 0 s t → Holds words set → W s (heldTree words set) t
+    → BlockWalked W layout words levelAboveRoot 0 (sizes .order) 0 s t → Holds words set → W s (heldTree words set) t
 root-walked {W = W} {layout = layout} {sizes = sizes} {words = words} {set = set} {s = s} {t = t} said laid walked holds =
     let (es, v) = sound-view words (holds .placed) (holds .sound) in
     let root = root-view words (holds .placed) es (holds .sound) v in
-    let view : BlockView (getD words 2 0) (layout .width) (layout .slots) words 0 (sizes .order) 0 es =
-    subst₂ (λ (l : Layout) (z : Sizes). BlockView (getD words 2 0) (l .width) (l .slots) words 0 (z .order) 0 es) (sym (layout-said words said laid)) (sym said) root in
-    let is : block (sizes .order) 0 (forestOf es) empty ≡ heldTree words set =
-    ap (λ (z : Sizes). block (z .order) 0 (forestOf es) empty) said ∙ sym (ap forestOf (v .is)) ∙ holds .sound .is-tree
+    let view : BlockView (sizesOf words .k) (layout .width) (layout .slots) words 0 (sizes .order) 0 es =
+    subst₂ (λ (l : Layout) (z : Sizes). BlockView (sizesOf words .k) (l .width) (l .slots) words 0 (z .order) 0 es) (sym (layout-said words said laid)) (sym said) root in
+    let is : block (sizes .order) 0 (unlabelled es) empty ≡ heldTree words set =
+    ap (λ (z : Sizes). block (z .order) 0 (unlabelled es) empty) said ∙ sym (ap unlabelled (v .is)) ∙ holds .sound .is-tree
     ∙ ap (λ (l : List ℕ). tree (panelOf (sizesOf words)) (member l)) (holds .set-is) in
-    subst (λ (f : Forest). W s f t) is (walked .right (getD words 2 0) es (omega (arith, view .level-to)) view)
+    subst (λ (f : Forest). W s f t) is (walked .right (sizesOf words .k) es (omega (arith, view .level-to)) view)

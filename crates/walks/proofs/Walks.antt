@@ -1,16 +1,16 @@
 -- The one law of walks: what a walk makes of the elements of a block, one after another, whatever it carries.
-use Prim.Native.Nat.{ℕ, _+_, _*_, _≤_, _<_}
+use Prim.Native.Nat.{ℕ, _+_, _≤_, _<_}
 use native.Mathlib.Omega.{arith}
 use mathlib.Core.Path.{_≡_, ap}
 use mathlib.Core.List.{List}
 use lib.ListN.{length}
-use Rattle.pktree.specs.Elements.{Forest, empty, pixel, block, _⧺_}
+use Rattle.pktree.specs.Elements.{Forest, empty, pixel, block, _⧺_, unlabelled}
 use Rattle.pktree.proofs.Unlabelled.{unlabelled-join}
 use Rattle.measures.specs.declared.sizes.Layout.{Layout}
-use Rattle.measures.specs.Layout.{LayoutFits}
-use Rattle.measures.specs.Slot.{slotPart}
+use Rattle.measures.specs.Layout.{LayoutFits, levelAboveRoot}
+use Rattle.measures.specs.Slot.{slotPart, elementIndex}
 use Rattle.store.specs.Element.{elementAt}
-use Rattle.store.specs.Placed.{Placed, forestOf}
+use Rattle.store.specs.Placed.{Placed}
 use Rattle.store.specs.Opening.{CannotOpen}
 use Rattle.store.specs.declared.elements.Element.{Element}
 use Rattle.store.specs.declared.elements.Element.the-variants.{Pixel, Block}
@@ -28,30 +28,26 @@ pub record Walk {S : Type 0} (W : S → Forest → S → Type 0) : Type 0 where
 
 -- the block in this slot was walked, and all inside it
 pub record BlockWalked {S : Type 0} (W : S → Forest → S → Type 0) (layout : Layout) (words : List ℕ) (above slot level code : ℕ) (s t : S) : Type 0 where
-  pub right : (k : ℕ) (es : Placed) → level < above → BlockView k (layout .width) (layout .slots) words slot level code es → W s (block level code (forestOf es) empty) t
+  pub right : (k : ℕ) (es : Placed) → level < above → BlockView k (layout .width) (layout .slots) words slot level code es → W s (block level code (unlabelled es) empty) t
 
 -- the elements of the block in this slot were walked
 pub record InsideWalked {S : Type 0} (W : S → Forest → S → Type 0) (layout : Layout) (words : List ℕ) (above slot level code : ℕ) (s t : S) : Type 0 where
-  pub right : (k : ℕ) (es : Placed) → level < above → BlockView k (layout .width) (layout .slots) words slot level code es → W s (forestOf es) t
+  pub right : (k : ℕ) (es : Placed) → level < above → BlockView k (layout .width) (layout .slots) words slot level code es → W s (unlabelled es) t
 
 -- an element of a block of this level was walked
 pub record ElementWalked {S : Type 0} (W : S → Forest → S → Type 0) (layout : Layout) (words : List ℕ) (level : ℕ) (element : Element) (s t : S) : Type 0 where
-  pub right : {k code : ℕ} {g : Placed} → level ≤ 16 → OneElement k (layout .width) (layout .slots) words level code element g → W s (forestOf g) t
+  pub right : {k code : ℕ} {g : Placed} → level ≤ 16 → OneElement k (layout .width) (layout .slots) words level code element g → W s (unlabelled g) t
 
 -- the loop over the elements of the block in an entered slot: the first i of them took the walk from s to t
 pub record InLoop {S : Type 0} (W : S → Forest → S → Type 0) (layout : Layout) (words : List ℕ) (above slot level code count : ℕ) (part : List ℕ) (i : ℕ) (s t : S) : Type 0 where
   pub slot-entered : SlotEntered layout words above slot level code count
   pub part-is : part ≡ slotPart (layout .width) words slot
-  pub laid : 8 + 2 * count ≤ length part
+  pub laid : elementIndex count ≤ length part
   pub at : i ≤ count
   pub passed : (k : ℕ) (es : Placed) → BlockView k (layout .width) (layout .slots) words slot level code es → Passed (λ f. W s f t) es i
 
-pub is-entered : {layout : Layout} {words : List ℕ} {above slot level code : ℕ} {o : Opening} {count : ℕ} → o ≡ Elements count → Entered layout words above slot level code o
-    → SlotEntered layout words above slot level code count
-is-entered e h = h .entered _ e
-
 pub entered-low : {layout : Layout} {words : List ℕ} {above slot level code : ℕ} {o : Opening} {count : ℕ} → o ≡ Elements count → Entered layout words above slot level code o
-    → above ≤ 17 → level ≤ 16
+    → above ≤ levelAboveRoot → level ≤ 16
 entered-low e h top = omega (arith, h .entered _ e .level-below)
 
 pub entered-below : {layout : Layout} {words : List ℕ} {above slot level code : ℕ} {o : Opening} {count : ℕ} → o ≡ Elements count → Entered layout words above slot level code o
@@ -62,15 +58,15 @@ module _ {S : Type 0} {W : S → Forest → S → Type 0} {layout : Layout} {wor
   pub walked-pixel : {element : Element} {c : ℕ} → element ≡ Pixel c → W s (pixel c empty) t → ElementWalked W layout words level element s t
   walked-pixel {c = c} e w = rw e (record { right = one })
     where
-      one : {k code : ℕ} {g : Placed} → level ≤ 16 → OneElement k (layout .width) (layout .slots) words level code (Pixel c) g → W s (forestOf g) t
+      one : {k code : ℕ} {g : Placed} → level ≤ 16 → OneElement k (layout .width) (layout .slots) words level code (Pixel c) g → W s (unlabelled g) t
       one low (is-pixel c) = w
 
   pub walked-child : {element : Element} {slot inner code : ℕ} → element ≡ Block slot inner code
-      → ((k at : ℕ) (fs : Placed) → level ≤ 16 → ChildView k (layout .width) (layout .slots) words level at slot inner code fs → W s (block inner code (forestOf fs) empty) t)
+      → ((k at : ℕ) (fs : Placed) → level ≤ 16 → ChildView k (layout .width) (layout .slots) words level at slot inner code fs → W s (block inner code (unlabelled fs) empty) t)
       → ElementWalked W layout words level element s t
   walked-child {slot = slot} {inner = inner} {code = code} e w = rw e (record { right = one })
     where
-      one : {k at : ℕ} {g : Placed} → level ≤ 16 → OneElement k (layout .width) (layout .slots) words level at (Block slot inner code) g → W s (forestOf g) t
+      one : {k at : ℕ} {g : Placed} → level ≤ 16 → OneElement k (layout .width) (layout .slots) words level at (Block slot inner code) g → W s (unlabelled g) t
       one {at = at} low (is-block x j c fs child) = w _ at fs low child
 
   pub walked-block : {element : Element} {slot inner code : ℕ} → element ≡ Block slot inner code → BlockWalked W layout words level slot inner code s t
@@ -124,7 +120,7 @@ module _ {S : Type 0} {W : S → Forest → S → Type 0} {layout : Layout} {wor
 
     -- what is made of the elements is made of the block
     pub loop-ends : {r : S} → count ≤ i → ((f : Forest) → W s f t → W r (block level code f empty) t) → BlockWalked W layout words above slot level code r t
-    loop-ends end opens = record { right = λ k es low view. opens (forestOf es) (all-passed (record { header = to .slot-entered .header }) view (to .passed k es view) end) }
+    loop-ends end opens = record { right = λ k es low view. opens (unlabelled es) (all-passed (record { header = to .slot-entered .header }) view (to .passed k es view) end) }
 
     pub loop-inside : count ≤ i → InsideWalked W layout words above slot level code s t
     loop-inside end = record { right = λ k es low view. all-passed (record { header = to .slot-entered .header }) view (to .passed k es view) end }

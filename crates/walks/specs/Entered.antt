@@ -2,6 +2,7 @@
 use Prim.Native.Nat.{ℕ, _≤_, _<_}
 use mathlib.Core.Path.{_≡_}
 use mathlib.Core.List.{List}
+use Rattle.measures.specs.Layout.{mostElements}
 use Rattle.measures.specs.declared.sizes.Layout.{Layout}
 use Rattle.measures.specs.Slot.{slotPart}
 use Rattle.store.specs.Opening.{HeaderSays, CannotOpen}
@@ -13,7 +14,7 @@ pub record SlotEntered (layout : Layout) (words : List ℕ) (above slot level co
   pub slot-below : slot < layout .slots
   pub level-below : level < above
   pub header : HeaderSays (slotPart (layout .width) words slot) level code count
-  pub few : count ≤ 75
+  pub few : count ≤ mostElements
 
 pub record Entered (layout : Layout) (words : List ℕ) (above slot level code : ℕ) (r : Opening) : Type 0 where
   pub entered : (count : ℕ) → r ≡ Elements count → SlotEntered layout words above slot level code count

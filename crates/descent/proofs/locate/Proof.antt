@@ -11,7 +11,7 @@ use Rattle.store.specs.Opening.{HeaderSays, Opened}
 use Rattle.store.specs.declared.opening.Opening.{Opening}
 use Rattle.descent.specs.declared.Ahead.{Ahead}
 use Rattle.descent.specs.Located.{CanEnter}
-use Rattle.descent.specs.Looked.{Looked, InnerBlock}
+use Rattle.descent.specs.Located.{Looked, InnerBlock}
 use Rattle.measures.proofs.Usable.{slot-long}
 use Rattle.descent.proofs.Descending.{Descended, at-root, stopped, never-at-pixel, never-closed, few-elements, found-here, never-barred, steps-down}
 use Rattle.descent.proofs.locate.Statement.{statement}
@@ -24,6 +24,13 @@ Inv-loop store layout order code slots₀ places₀ depth₀ slot₀ level₀ bl
 abbrev μ-loop : tie.MeasureT-loop
 μ-loop store layout order code slots₀ places₀ depth₀ slot₀ level₀ block₀ slots places depth slot level block = level
 
+-- where a slot is opened, the turn of the loop in which it is
+abbrev testOf : tie.After-known-told Inv-loop μ-loop → tie.In-loop Inv-loop μ-loop
+testOf c = c .before .before .before .before .before .before
+
+abbrev turnOf : tie.After-known-told Inv-loop μ-loop → tie.At-loop Inv-loop μ-loop
+turnOf c = testOf c .before
+
 -- the words of the block that was reached
 abbrev partOf : tie.At-loop Inv-loop μ-loop → List ℕ
 partOf c = slotPart (c .before .before .args .layout .width) (c .before .before .args .store .now) (c .loop .slot)
@@ -32,7 +39,7 @@ part-is : (c : tie.After-slot-part Inv-loop μ-loop) → c .slot-part .result .n
 part-is c = rw (← c .before .wide .ensures) (c .slot-part .ensures)
 
 header : (c : tie.After-known-told Inv-loop μ-loop)
-    → let turn = c .before .before .before .before .before .before .before in HeaderSays (partOf turn) (turn .loop .level) (turn .loop .block) (c .before .count .given .0 .0)
+    → let turn = turnOf c in HeaderSays (partOf turn) (turn .loop .level) (turn .loop .block) (c .before .count .given .0 .0)
 header c =
     let opened = c .before .before .before in
     let turn = opened .before .before .before .before in
@@ -40,12 +47,12 @@ header c =
 
 inner : (c : tie.After-known-told3 Inv-loop μ-loop)
     → let opened = c .before .before .before .before in
-    let turn = opened .before .before .before .before .before .before .before in
+    let turn = turnOf opened in
     InnerBlock (partOf turn) (opened .before .count .given .0 .0) (turn .before .before .args .code) (c .before .inner .given .0 .0 .place)
     (c .before .inner .given .0 .0 .slot) (c .before .inner .given .0 .0 .level) (c .before .inner .given .0 .0 .code)
 inner c =
     let opened = c .before .before .before .before in
-    let turn = opened .before .before .before .before .before .before .before in
+    let turn = turnOf opened in
     subst₂ (λ (p : List ℕ) (r : Ahead). Looked p (opened .before .count .given .0 .0) (turn .before .before .args .code) r)
     (part-is (opened .before .before .before .before)) (c .before .inner .given .1) (c .before .before .before .look .ensures)
 
@@ -71,24 +78,24 @@ returns c =
 
 look-requires : tie.Need-look-requires Inv-loop μ-loop
 look-requires c κs =
-    let turn = c .before .before .before .before .before .before .before in
+    let turn = turnOf c in
     rw (part-is (c .before .before .before .before)) (header c .laid, few-elements (turn .before .before .pre .0) (turn .loop .inv) (header c))
 
 returns-2 : tie.Need-returns-2 Inv-loop μ-loop
 returns-2 c =
     let e = c .before in
     let opened = e .before .before .before .before in
-    let turn = opened .before .before .before .before .before .before .before in
+    let turn = turnOf opened in
     rw (c .found-at .ensures)
     (found-here (turn .before .before .pre .0) (turn .loop .inv) (header opened) (e .before .place .given .0 .0) (e .before .place .given .0 .1 .0)
-    (opened .before .before .before .before .before .before .loop-test .taken)
+    (testOf opened .loop-test .taken)
     (subst₂ (λ (p : List ℕ) (r : Ahead). Looked p (opened .before .count .given .0 .0) (turn .before .before .args .code) r)
     (part-is (opened .before .before .before .before)) (e .before .place .given .1) (e .before .before .before .look .ensures)))
 
 -- what the test of the inner block says
 entering : (c : tie.After-can-enter Inv-loop μ-loop) {r : Bool} → c .can-enter .result ≡ r
     → let opened = c .before .before .before .before .before in
-    let turn = opened .before .before .before .before .before .before .before in
+    let turn = turnOf opened in
     CanEnter (turn .before .before .args .layout) (turn .loop .level) (c .before .before .inner .given .0 .0 .slot) (c .before .before .inner .given .0 .0 .level) r
 entering c e = rw e at (c .can-enter .ensures)
 
@@ -96,7 +103,7 @@ returns-3 : tie.Need-returns-3 Inv-loop μ-loop
 returns-3 c =
     let entered = c .before .before .before in
     let opened = entered .before .before .before .before in
-    let turn = opened .before .before .before .before .before .before .before in
+    let turn = turnOf opened in
     stopped (c .damaged2 .ensures)
     (never-barred (turn .before .before .pre .0) (turn .loop .inv) (header opened) (inner entered) (entering (c .before .before) (not-true (c .before .before .can-enter .result) (c .before .if1 .taken))))
 
@@ -104,14 +111,14 @@ cast-places : tie.Need-cast-places Inv-loop μ-loop
 cast-places c =
     let entered = c .before .before .before in
     let opened = entered .before .before .before .before in
-    let turn = opened .before .before .before .before .before .before .before in
+    let turn = turnOf opened in
     omega (arith, inner entered .within, few-elements (turn .before .before .pre .0) (turn .loop .inv) (header opened))
 
 loop-again : tie.Need-loop-again Inv-loop μ-loop
 loop-again c =
     let entered = c .before .before .before in
     let opened = entered .before .before .before .before in
-    let turn = opened .before .before .before .before .before .before .before in
+    let turn = turnOf opened in
     let lower = entering (c .before .before) (not-false (c .before .before .can-enter .result) (c .before .if1 .left)) in
     steps-down (turn .before .before .pre .0) (turn .loop .inv) (header opened) (inner entered) (turn .before .before .pre .1) (lower .0) (lower .1)
 

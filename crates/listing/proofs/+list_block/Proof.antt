@@ -25,12 +25,12 @@ abbrev μ-block : Measures 2 kinds.ps ℕ
 μ-block κs a = a .1 .1 .0
 
 abbrev Inv-loop : lts.InvT-loop
-Inv-loop store look above slot level code output₀ found opened count part pixels₀ blocks₀ i₀ output pixels blocks i =
-    InLoop (Lists look) (look .layout) store above slot level code count part i (output₀, pixels₀, blocks₀) (output, pixels, blocks)
-    × LayoutFits (look .layout) store × (length output ≡ length output₀)
+Inv-loop store range above slot level code output₀ found opened count part pixels₀ blocks₀ i₀ output pixels blocks i =
+    InLoop (Lists range) (range .layout) store above slot level code count part i (output₀, pixels₀, blocks₀) (output, pixels, blocks)
+    × LayoutFits (range .layout) store × (length output ≡ length output₀)
 
 abbrev μ-loop : lts.MeasureT-loop
-μ-loop store look above slot level code output₀ found opened count part pixels₀ blocks₀ i₀ output pixels blocks i = count - i
+μ-loop store range above slot level code output₀ found opened count part pixels₀ blocks₀ i₀ output pixels blocks i = count - i
 
 pub +list-block-spec : {M : Type 1} → statement M
 +list-block-spec = close μ-block λ t. lts.spec

@@ -7,7 +7,7 @@ use native.Mathlib.Decide.{decLt}
 use native.Mathlib.Omega.{arith}
 use lib.Dec.{leb}
 use borrow.Author.Tests.{lt-leb, le-leb}
-use Rattle.morton.specs.Between.{Between}
+use Rattle.morton.specs.Coordinate.{Between}
 use Rattle.morton.proofs.is_between.Statement.{statement}
 use Rattle.morton.proofs.is_between.Tie as tie
 

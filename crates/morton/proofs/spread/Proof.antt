@@ -5,6 +5,7 @@ use native.Mathlib.Nat.{lt-of-le-of-lt}
 use lib.Dec.{lit<, lit≤}
 use lib.Pow.{shl-exact}
 use lib.Bits.{bitAnd, bitOr, and-le-r}
+use Rattle.morton.specs.Coordinate.{largestSide}
 use Rattle.morton.specs.Code.{spreadBits}
 use Rattle.morton.proofs.Fields.{twice, evens, laid, laid-one, laid-bits, spread-step}
 use Rattle.morton.proofs.spread.Statement.{statement}
@@ -23,7 +24,7 @@ step-is j k m x {mask} {y} hj hk em ey =
 step-lt : (k mask y : ℕ) {b : ℕ} → mask < b → step k mask y < b
 step-lt k mask y h = lt-of-le-of-lt (and-le-r (bitOr y (y * 2 ^ k % 2 ^ 32)) mask) h
 
-spread-law : (x : ℕ) → x < 65536 → step 1 0x5555_5555 (step 2 0x3333_3333 (step 4 0x0f0f_0f0f (step 8 0x00ff_00ff x))) ≡ spreadBits 16 x
+spread-law : (x : ℕ) → x < largestSide → step 1 0x5555_5555 (step 2 0x3333_3333 (step 4 0x0f0f_0f0f (step 8 0x00ff_00ff x))) ≡ spreadBits 16 x
 unfolding evens twice
 spread-law x h =
     let a : ℕ = step 8 0x00ff_00ff x in

@@ -1,7 +1,7 @@
 -- `pkreg::pk_check` meets its contract: each arm hands over the numbers of its case.
 use mathlib.Core.Path.{subst, sym}
 use borrow.Author.Needs.{needs}
-use Rattle.register.specs.Calls.{CheckMeets}
+use Rattle.promises.specs.Calls.{CheckMeets}
 use Rattle.pkreg.proofs.pk_check.Statement.{statement}
 use Rattle.pkreg.proofs.pk_check.Tie as tie
 

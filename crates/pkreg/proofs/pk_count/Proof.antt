@@ -3,15 +3,14 @@ use borrow.Author.Needs.{needs}
 use Rattle.pkreg.proofs.pk_count.Statement.{statement}
 use Rattle.pkreg.proofs.pk_count.Tie as tie
 
-returns : tie.Need-returns
-returns c =
-    let call = c .before .before .before .before .count in
-    rw (c .before .before .found .given .1, ← c .accepted .ensures) at (call .ensures)
-
-returns-2 : tie.Need-returns-2
-returns-2 c =
-    let call = c .before .before .before .before .count in
-    rw (c .before .before .refusal .given .1, ← c .refused .ensures) at (call .ensures)
-
 pub pk-count-spec : {M : Type 1} → statement M
-pk-count-spec = tie.close (tie.spec (λ c κs. search needs) (λ c. search needs) (λ c κs. search needs) (λ c. search needs) (λ c κs. search needs) returns returns-2)
+pk-count-spec =
+    tie.close
+    (tie.spec
+    (λ c κs. search needs)
+    (λ c. search needs)
+    (λ c κs. search needs)
+    (λ c. search needs)
+    (λ c κs. search needs)
+    (λ c. let arm = c .before .before in rw (arm .found .given .1, ← c .accepted .ensures) at (arm .before .before .count .ensures))
+    (λ c. let arm = c .before .before in rw (arm .refusal .given .1, ← c .refused .ensures) at (arm .before .before .count .ensures)))

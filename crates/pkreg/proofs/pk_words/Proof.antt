@@ -10,7 +10,7 @@ returns : tie.Need-returns
 returns c =
     let w = c .before .within-limits in
     let a = c .before .before .args in
-    none-beyond (a .k) (a .n) (decided-false (not-true (w .result) (c .if1 .taken)) (w .ensures))
+    none-beyond (a .k) (a .most) (decided-false (not-true (w .result) (c .if1 .taken)) (w .ensures))
 
 layout-of-requires : tie.Need-layout-of-requires
 layout-of-requires c κs =
@@ -20,7 +20,7 @@ layout-of-requires c κs =
 returns-2 : tie.Need-returns-2
 returns-2 c =
     let a = c .before .before .before .before .args in
-    needed-within (a .k) (a .n) _
+    needed-within (a .k) (a .most) _
     (layout-of-requires (c .before .before) (c .before .layout-of .lifetimes))
     (rw (c .before .layout-of .ensures .is) at (c .store-end .ensures))
 

@@ -1,7 +1,7 @@
 -- `pkreg::refused` meets its contract: the number is the refusal's.
 use mathlib.Core.Path.{ap}
 use borrow.Author.Needs.{needs}
-use Rattle.register.specs.Answer as answers
+use Rattle.promises.specs.Answer as answers
 use Rattle.pkreg.proofs.refused.Statement.{statement}
 use Rattle.pkreg.proofs.refused.Tie as tie
 

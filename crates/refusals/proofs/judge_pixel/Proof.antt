@@ -8,7 +8,10 @@ use Rattle.refusals.proofs.Sides.{Known, order-small, side-of-order, co
 use Rattle.refusals.proofs.judge_pixel.Statement.{statement}
 use Rattle.refusals.proofs.judge_pixel.Tie as tie
 
-known : (c : tie.After-struct-known) → Known (c .before .before .before .before .before .before .args .store .now) (c .before .before .sizes .given .0 .0)
+abbrev startOf : tie.After-struct-known → tie.Start
+startOf c = c .before .before .before .before .before .before
+
+known : (c : tie.After-struct-known) → Known (startOf c .args .store .now) (c .before .before .sizes .given .0 .0)
 known c = rw (c .before .before .sizes .given .1) at (c .before .before .before .before .read-sizes .ensures)
 
 returns : tie.Need-returns
@@ -28,8 +31,9 @@ code-of-requires c κs = omega (arith, side-of-order (known (c .before .before))
 
 returns-4 : tie.Need-returns-4
 returns-4 c =
-    let k = known (c .before .before .before) in
-    let a = c .before .before .before .before .before .before .before .before .before .args in
+    let known-at = c .before .before .before in
+    let k = known known-at in
+    let a = startOf known-at .args in
     let on : HasPixelOn (a .store .now) (a .x) (a .y) = omega (arith, side-of-order k) in
     record { usable = k .1; sizes-are = k .0; on-panel = on; code-is = c .code-of .ensures; code-on-panel = code-on-panel k on (c .code-of .ensures) }
 

@@ -8,7 +8,10 @@ use Rattle.refusals.proofs.Sides.{Known, order-small, side-of-order}
 use Rattle.refusals.proofs.judge_window.Statement.{statement}
 use Rattle.refusals.proofs.judge_window.Tie as tie
 
-known : (c : tie.After-struct-known) → Known (c .before .before .before .before .before .before .args .store .now) (c .before .before .sizes .given .0 .0)
+abbrev startOf : tie.After-struct-known → tie.Start
+startOf c = c .before .before .before .before .before .before
+
+known : (c : tie.After-struct-known) → Known (startOf c .args .store .now) (c .before .before .sizes .given .0 .0)
 known c = rw (c .before .before .sizes .given .1) at (c .before .before .before .before .read-sizes .ensures)
 
 returns : tie.Need-returns
@@ -30,20 +33,23 @@ returns-5 : tie.Need-returns-5
 returns-5 c = let k = known (c .before .before .before .before) in inr (inl (refl, k .1, λ on. omega (arith, side-of-order k)))
 
 -- all four tests of the side passed
+abbrev judged : tie.Else4 → tie.After-struct-known
+judged c = c .before .before .before .before
+
 corners-on
     : (c : tie.Else4)
-    → let a = c .before .before .before .before .before .before .before .before .before .before .args in CornersOn (a .store .now) (a .x0) (a .y0) (a .x1) (a .y1)
-corners-on c = omega (arith, side-of-order (known (c .before .before .before .before)))
+    → let a = startOf (judged c) .args in CornersOn (a .store .now) (a .x0) (a .y0) (a .x1) (a .y1)
+corners-on c = omega (arith, side-of-order (known (judged c)))
 
 returns-6 : tie.Need-returns-6
-returns-6 c = inr (inr (refl, known (c .before .before .before .before .before) .1, corners-on (c .before), λ o. omega arith))
+returns-6 c = inr (inr (refl, known (judged (c .before)) .1, corners-on (c .before), λ o. omega arith))
 
 returns-7 : tie.Need-returns-7
-returns-7 c = inr (inr (refl, known (c .before .before .before .before .before .before) .1, corners-on (c .before .before), λ o. omega arith))
+returns-7 c = inr (inr (refl, known (judged (c .before .before)) .1, corners-on (c .before .before), λ o. omega arith))
 
 returns-8 : tie.Need-returns-8
 returns-8 c =
-    let k = known (c .before .before .before .before .before .before) in
+    let k = known (judged (c .before .before)) in
     record { usable = k .1; sizes-are = k .0; on-panel = corners-on (c .before .before); ordered = omega arith }
 
 pub judge-window-spec : {M : Type 1} → statement M

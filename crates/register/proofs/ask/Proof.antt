@@ -3,7 +3,7 @@ use mathlib.Core.Path.{refl}
 use borrow.Author.Needs.{needs}
 use Rattle.query.specs.declared.ask.Asked.the-variants.{Known, Damaged}
 use Rattle.register.proofs.Refusals.{pixel-refused, pixel-given}
-use Rattle.register.proofs.Looks.{ask-walks}
+use Rattle.register.proofs.Walks.{ask-walks}
 use Rattle.register.proofs.ask.Statement.{statement}
 use Rattle.register.proofs.ask.Tie as tie
 

@@ -2,7 +2,7 @@
 use mathlib.Core.Path.{refl}
 use borrow.Author.Needs.{needs}
 use Rattle.measures.proofs.Decides.{decided-true, decided-false}
-use Rattle.register.specs.Effect.{passed, stopped}
+use Rattle.promises.specs.Effect.{passed, stopped}
 use Rattle.register.proofs.check.Statement.{statement}
 use Rattle.register.proofs.check.Tie as tie
 

@@ -3,7 +3,7 @@ use mathlib.Core.Path.{refl}
 use borrow.Author.Needs.{needs}
 use Rattle.query.specs.declared.count.Counted.the-variants.{Seen, Damaged}
 use Rattle.register.proofs.Refusals.{window-refused, window-given}
-use Rattle.register.proofs.Looks.{have-codes, count-walks}
+use Rattle.register.proofs.Walks.{have-codes, count-walks}
 use Rattle.register.proofs.count.Statement.{statement}
 use Rattle.register.proofs.count.Tie as tie
 

@@ -1,9 +1,9 @@
 -- `register::list` meets its contract: `judge_window` decides the refusals, and the walk's answer and output are passed on.
 use mathlib.Core.Path.{refl}
 use borrow.Author.Needs.{needs}
-use Rattle.listing.specs.declared.Listed.the-variants.{Written, Short, Broken}
+use Rattle.listing.specs.declared.Listed.the-variants.{Written, Short, Damaged}
 use Rattle.register.proofs.Refusals.{window-refused, window-given}
-use Rattle.register.proofs.Looks.{have-codes, list-walks}
+use Rattle.register.proofs.Walks.{have-codes, list-walks}
 use Rattle.register.proofs.list.Statement.{statement}
 use Rattle.register.proofs.list.Tie as tie
 
@@ -35,7 +35,7 @@ returns-4 c =
     let l = c .before .before .before .before in
     let s = l .before .before .before in
     let p = rw (s .sizes .given .1) at (s .before .before .judge-window .ensures) in
-    window-given p (list-walks p Broken (rw (c .enum-told .given .1) at (l .list .ensures)))
+    window-given p (list-walks p Damaged (rw (c .enum-told .given .1) at (l .list .ensures)))
 
 pub list-spec : {M : Type 1} → statement M
 list-spec =

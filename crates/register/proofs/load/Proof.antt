@@ -1,7 +1,7 @@
 -- `register::load` meets its contract: `read_sizes` decides refusal 3, and each end of loading is passed on with its number.
 use mathlib.Core.Path.{refl}
 use borrow.Author.Needs.{needs}
-use Rattle.register.specs.Effect.{stopped}
+use Rattle.promises.specs.Effect.{stopped}
 use Rattle.register.proofs.Loads.{load-done, load-malformed, load-unlike, load-no-set}
 use Rattle.register.proofs.load.Statement.{statement}
 use Rattle.register.proofs.load.Tie as tie

@@ -4,7 +4,7 @@ use mathlib.Core.Path.{refl, sym}
 use borrow.Author.Needs.{needs}
 use borrow.Author.Tests.{not-true, not-false}
 use Rattle.measures.proofs.Decides.{decided-true, decided-false}
-use Rattle.register.specs.Effect.{passed, stopped}
+use Rattle.promises.specs.Effect.{passed, stopped}
 use Rattle.register.proofs.Makes.{made-empty}
 use Rattle.register.proofs.make.Statement.{statement}
 use Rattle.register.proofs.make.Tie as tie

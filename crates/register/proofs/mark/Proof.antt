@@ -1,50 +1,17 @@
 -- `register::mark` meets its contract: `judge_pixel` decides 3 and 4, and each end of the change is passed on with its number.
-use mathlib.Core.Path.{refl}
+use mathlib.Core.Path.{_≡_, refl}
 use borrow.Author.Needs.{needs}
-use Rattle.refusals.specs.Judged.{PixelGiven}
-use Rattle.register.proofs.Refusals.{pixel-refused, pixel-given}
-use Rattle.register.proofs.Changes.{mark-done, mark-already, mark-full, mark-damaged}
+use Rattle.update.specs.declared.marks.Marking.{Marking}
+use Rattle.promises.specs.Calls.{MarkMeets}
+use Rattle.register.proofs.Refusals.{pixel-refused}
+use Rattle.register.proofs.Changes.{markAnswer, can-change, mark-answered}
 use Rattle.register.proofs.mark.Statement.{statement}
 use Rattle.register.proofs.mark.Tie as tie
 
-mark-requires : tie.Need-mark-requires
-mark-requires c κs =
-    let s = c .before .before in
-    let p = rw (s .sizes .given .1) at (s .before .before .judge-pixel .ensures) in
-    ((p .usable, p .sizes-are), p .code-on-panel)
-
-returns : tie.Need-returns
-returns c = pixel-refused refl _ (rw (c .before .refusal .given .1) at (c .before .before .before .judge-pixel .ensures))
-
--- the pixel that was judged
-pixel : (c : tie.After-mark) → (let s = c .before .before .before in
-    let a = s .before .before .before .before .before .args in
-    PixelGiven (a .store .now) (a .x) (a .y) (s .sizes .given .0 .0) (s .sizes .given .0 .1 .0))
-pixel c = let s = c .before .before .before in rw (s .sizes .given .1) at (s .before .before .judge-pixel .ensures)
-
-returns-2 : tie.Need-returns-2
-returns-2 c =
-    let m = c .before .before .before .before in
-    let p = pixel m in
-    pixel-given p (mark-done (p .usable) (rw (c .enum-told .given .1, p .code-is) at (m .mark .ensures)))
-
-returns-3 : tie.Need-returns-3
-returns-3 c =
-    let m = c .before .before .before .before in
-    let p = pixel m in
-    pixel-given p (mark-already (p .usable) (rw (c .enum-told2 .given .1, p .code-is) at (m .mark .ensures)))
-
-returns-4 : tie.Need-returns-4
-returns-4 c =
-    let m = c .before .before .before .before in
-    let p = pixel m in
-    pixel-given p (mark-full (p .usable) (rw (c .enum-told3 .given .1, p .code-is) at (m .mark .ensures)))
-
-returns-5 : tie.Need-returns-5
-returns-5 c =
-    let m = c .before .before .before .before in
-    let p = pixel m in
-    pixel-given p (mark-damaged (p .usable) (rw (c .enum-told4 .given .1, p .code-is) at (m .mark .ensures)))
+-- each end of the change is the call's
+ended : (c : tie.After-mark) → {r : Marking} → c .mark .result ≡ r
+    → (let s = c .before .before .before in let a = s .before .before .before .before .before .args in MarkMeets (a .store .now) (c .mark .last .0) (a .x) (a .y) (markAnswer r))
+ended c e = let s = c .before .before .before in mark-answered _ _ _ _ (s .sizes .given .1) (s .before .before .judge-pixel .ensures) e (c .mark .ensures)
 
 pub mark-spec : {M : Type 1} → statement M
 mark-spec =
@@ -53,18 +20,18 @@ mark-spec =
     (λ c κs. search needs)
     (λ c. search needs)
     (λ c. search needs)
-    mark-requires
+    (λ c κs. let s = c .before .before in can-change (rw (s .sizes .given .1) at (s .before .before .judge-pixel .ensures)))
     (λ c. search needs)
     (λ c. search needs)
     (λ c. search needs)
     (λ c. search needs)
     (λ c. search needs)
-    returns
+    (λ c. pixel-refused refl _ (rw (c .before .refusal .given .1) at (c .before .before .before .judge-pixel .ensures)))
     (λ c. search needs)
-    returns-2
+    (λ c. ended (c .before .before .before .before) (c .enum-told .given .1))
     (λ c. search needs)
-    returns-3
+    (λ c. ended (c .before .before .before .before) (c .enum-told2 .given .1))
     (λ c. search needs)
-    returns-4
+    (λ c. ended (c .before .before .before .before) (c .enum-told3 .given .1))
     (λ c. search needs)
-    returns-5)
+    (λ c. ended (c .before .before .before .before) (c .enum-told4 .given .1)))

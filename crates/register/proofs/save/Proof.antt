@@ -1,9 +1,9 @@
 -- `register::save` meets its contract: `read_sizes` decides refusal 3, and the walk's answer and output are passed on.
 use mathlib.Core.Path.{refl}
 use borrow.Author.Needs.{needs}
-use Rattle.saving.specs.declared.Imaged.the-variants.{Whole, TooShort, Unreadable}
-use Rattle.register.specs.Effect.{passed, stopped}
-use Rattle.register.proofs.Looks.{save-walks}
+use Rattle.saving.specs.declared.Imaged.the-variants.{Whole, TooShort, Damaged}
+use Rattle.promises.specs.Effect.{passed, stopped}
+use Rattle.register.proofs.Walks.{save-walks}
 use Rattle.register.proofs.save.Statement.{statement}
 use Rattle.register.proofs.save.Tie as tie
 
@@ -32,7 +32,7 @@ returns-4 : tie.Need-returns-4
 returns-4 c =
     let v = c .before .before .before .before in
     let u = save-requires (v .before) (v .save .lifetimes) .0 in
-    passed u (save-walks u Unreadable (rw (c .enum-told2 .given .1) at (v .save .ensures)))
+    passed u (save-walks u Damaged (rw (c .enum-told2 .given .1) at (v .save .ensures)))
 
 pub save-spec : {M : Type 1} → statement M
 save-spec =

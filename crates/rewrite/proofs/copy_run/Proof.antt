@@ -4,12 +4,6 @@ use Rattle.rewrite.proofs.Runs.{run-pasted}
 use Rattle.rewrite.proofs.copy_run.Statement.{statement}
 use Rattle.rewrite.proofs.copy_run.Tie as tie
 
-returns : tie.Need-returns
-returns c =
-    let s = c .before .before .before .before .before .before .before in
-    let a = s .args in
-    run-pasted (a .part .now) (a .target .now) (a .at) (a .first) (a .size) (s .pre .0) (c .before .before .copy-words .ensures)
-
 pub copy-run-spec : {M : Type 1} → statement M
 copy-run-spec =
     tie.close
@@ -23,4 +17,4 @@ copy-run-spec =
     (λ c. search needs)
     (λ c κs. search needs)
     (λ c. search needs)
-    returns)
+    (λ c. search (needs, run-pasted)))

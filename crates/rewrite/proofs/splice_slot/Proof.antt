@@ -1,7 +1,7 @@
 -- `rewrite::splice_slot` meets its contract: the part that is lent and comes back spliced is the slot.
 use borrow.Author.Needs.{needs}
 use Rattle.measures.proofs.SlotWrites.{lent-part}
-use Rattle.rewrite.proofs.Moves.{slot-lent}
+use Rattle.rewrite.proofs.LentSlots.{spliced-back}
 use Rattle.rewrite.proofs.splice_slot.Statement.{statement}
 use Rattle.rewrite.proofs.splice_slot.Tie as tie
 
@@ -10,13 +10,6 @@ splice-requires c κs =
     let o = c .before .offset in
     let s = c .before .before .before .before in
     rw (lent-part (s .args .layout .width) (s .args .slot) (o .result) (s .args .store .now) (o .ensures .is)) (s .pre .1)
-
-returns : tie.Need-returns
-returns c =
-    let r = c .before .before .splice in
-    let s = c .before .before .before .before .before .before .before in
-    let (lent, g) = slot-lent (r .last .0) (s .pre .0 .0) (s .pre .0 .1) (c .before .before .before .before .offset .ensures) (r .kept .0) in
-    record { spliced = rw (g .self, ← lent) (r .ensures); only = g .only }
 
 pub splice-slot-spec : {M : Type 1} → statement M
 splice-slot-spec =
@@ -30,4 +23,4 @@ splice-slot-spec =
     (λ c. search needs)
     splice-requires
     (λ c. search needs)
-    returns)
+    (λ c. search (needs, spliced-back)))

@@ -2,7 +2,9 @@
 use Prim.Native.Nat.{_-_, _≤_, _<_}
 use native.Mathlib.Omega.{arith}
 use borrow.Author.Needs.{needs}
-use Rattle.runs.specs.Run.{AscendingCodes, LevelBefore, LevelAt}
+use Rattle.store.specs.Splice.{PlaceOf}
+use Rattle.runs.specs.declared.RunFound.the-variants.{Nothing}
+use Rattle.runs.specs.Run.{AscendingCodes, LevelBefore, LevelAt, RunMeets}
 use Rattle.runs.proofs.Runs.{Outward, some-before, some-at, few-near, take-left, take-right, run-found}
 use Rattle.runs.proofs.least_run.Statement.{statement}
 use Rattle.runs.proofs.least_run.Tie as tie
@@ -16,11 +18,18 @@ Inv-loop part count place level k code left₀ right₀ below₀ above₀ reache
 abbrev μ-loop : tie.MeasureT-loop
 μ-loop part count place level k code left₀ right₀ below₀ above₀ reached₀ left right below above reached = k - (right - left)
 
-returns : tie.Need-returns Inv-loop μ-loop
-returns c =
-    let l = c .before .before .before .loop in
-    let at = c .before .before .before .before .before .before .before .pre .0 .1 in
-    λ ascending h s. few-near ascending at (l .inv .0 .0) (l .inv .0 .1) (l .inv .1 .0) (l .inv .1 .1) _ h (omega arith) (omega arith) (omega arith)
+-- the code's place, where the loop begins
+place-of : (c : tie.At-loop Inv-loop μ-loop)
+    → let s = c .before .before .before .before in PlaceOf (s .args .part .now) (s .args .count) (s .args .code) (s .args .place)
+place-of c = c .before .before .before .before .pre .0 .1
+
+-- no lower block holds k, where neither side's next element is near at a lower level
+nothing : (c : tie.At-loop Inv-loop μ-loop)
+    → let a = c .before .before .before .before .args in c .loop .right - c .loop .left < a .k → a .level ≤ c .loop .below → a .level ≤ c .loop .above
+    → RunMeets (a .part .now) (a .count) (a .level) (a .k) (a .code) Nothing
+nothing c room low high = λ ascending h s.
+    let l = c .loop .inv in
+    few-near ascending (place-of c) (l .0 .0) (l .0 .1) (l .1 .0) (l .1 .1) _ h room (omega arith) (omega arith)
 
 sub-left : tie.Need-sub-left Inv-loop μ-loop
 sub-left c = omega (arith, some-before (c .before .before .before .loop .inv .1 .0) (omega arith))
@@ -30,8 +39,9 @@ loop-less c = omega (arith, some-before (c .before .before .before .before .loop
 
 loop-again : tie.Need-loop-again Inv-loop μ-loop
 loop-again c =
-    let l = c .before .before .before .before .loop in
-    let at = c .before .before .before .before .before .before .before .before .pre .0 .1 in
+    let turn = c .before .before .before .before in
+    let l = turn .loop in
+    let at = place-of turn in
     let below = l .inv .1 .0 in
     let above = l .inv .1 .1 in (
       omega (arith, some-before below (omega arith)),
@@ -39,16 +49,11 @@ loop-again c =
       λ ascending. take-left ascending at (l .inv .0 .0) (l .inv .0 .1) below above (c .before .before .if1 .taken) (omega arith) (l .inv .0 .2) (omega arith) (l .inv .2 ascending),
     )
 
-returns-2 : tie.Need-returns-2 Inv-loop μ-loop
-returns-2 c =
-    let l = c .before .before .before .loop in
-    let at = c .before .before .before .before .before .before .before .pre .0 .1 in
-    λ ascending h s. few-near ascending at (l .inv .0 .0) (l .inv .0 .1) (l .inv .1 .0) (l .inv .1 .1) _ h (omega arith) (omega arith) (omega arith)
-
 loop-again-2 : tie.Need-loop-again-2 Inv-loop μ-loop
 loop-again-2 c =
-    let l = c .before .before .before .before .loop in
-    let at = c .before .before .before .before .before .before .before .before .pre .0 .1 in
+    let turn = c .before .before .before .before in
+    let l = turn .loop in
+    let at = place-of turn in
     let below = l .inv .1 .0 in
     let above = l .inv .1 .1 in (
       omega (arith, some-at above (omega arith)),
@@ -58,8 +63,9 @@ loop-again-2 c =
 
 returns-3 : tie.Need-returns-3 Inv-loop μ-loop
 returns-3 c =
-    let l = c .before .before .before .loop in
-    let at = c .before .before .before .before .before .before .before .pre .0 .1 in
+    let turn = c .before .before .before in
+    let l = turn .loop in
+    let at = place-of turn in
     record {
       low = l .inv .0 .4 (omega arith);
       within = omega arith;
@@ -77,12 +83,12 @@ least-run-spec =
     (λ c κs. search needs)
     (λ c. search needs)
     (λ c. search needs)
-    returns
+    (λ c. nothing (c .before .before .before) (omega arith) (omega arith) (omega arith))
     sub-left
     (λ c κs. search needs)
     loop-less
     loop-again
-    returns-2
+    (λ c. nothing (c .before .before .before) (omega arith) (omega arith) (omega arith))
     (λ c. search needs)
     (λ c κs. search needs)
     (λ c. search needs)

@@ -5,11 +5,12 @@ use mathlib.Core.Path.{_≡_}
 use borrow.Author.Needs.{needs}
 use Rattle.runs.proofs.level_before.Statement.{statement}
 use Rattle.runs.proofs.level_before.Tie as tie
+use Rattle.measures.specs.Slot.{elementIndex}
 
 returns-2 : tie.Need-returns-2
 returns-2 c =
     let i = c .before .before .before .before .args .i in
-    record { there = λ h. let e : 8 + 2 * (i - 1) ≡ 6 + 2 * i = omega arith in rw e (c .common-level .ensures); missing = omega arith }
+    record { there = λ h. let e : elementIndex (i - 1) ≡ 6 + 2 * i = omega arith in rw e (c .common-level .ensures); missing = omega arith }
 
 pub level-before-spec : {M : Type 1} → statement M
 level-before-spec =

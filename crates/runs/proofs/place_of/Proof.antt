@@ -6,6 +6,7 @@ use mathlib.Core.Logic.{⊎-elim}
 use borrow.Author.Needs.{needs}
 use Rattle.runs.proofs.place_of.Statement.{statement}
 use Rattle.runs.proofs.place_of.Tie as tie
+use Rattle.measures.specs.Slot.{elementIndex}
 
 returns-3 : tie.Need-returns-3
 returns-3 c =
@@ -13,7 +14,7 @@ returns-3 c =
     let s = c .before .before .before .before .before in
     record {
       within = omega arith;
-      before = λ i e. let at : 8 + 2 * i ≡ 6 + 2 * s .args .near = omega arith in rw at (⊎-elim (λ t. omega (arith, t .2)) (λ t. omega (arith, t)) below);
+      before = λ i e. let at : elementIndex i ≡ 6 + 2 * s .args .near = omega arith in rw at (⊎-elim (λ t. omega (arith, t .2)) (λ t. omega (arith, t)) below);
       after = λ h. omega arith;
     }
 
@@ -23,7 +24,7 @@ returns-4 c =
     let s = c .before .before .before in
     record {
       within = omega arith;
-      before = λ i e. let at : 8 + 2 * i ≡ 6 + 2 * s .args .near = omega arith in rw at (⊎-elim (λ t. omega (arith, t .2)) (λ t. omega (arith, t)) below);
+      before = λ i e. let at : elementIndex i ≡ 6 + 2 * s .args .near = omega arith in rw at (⊎-elim (λ t. omega (arith, t .2)) (λ t. omega (arith, t)) below);
       after = λ h. omega arith;
     }
 

@@ -8,6 +8,7 @@ use Rattle.runs.specs.Run.{Near}
 use Rattle.runs.proofs.Runs.{near-with}
 use Rattle.runs.proofs.reach_left.Statement.{statement}
 use Rattle.runs.proofs.reach_left.Tie as tie
+use Rattle.measures.specs.Slot.{elementIndex}
 
 abbrev Inv-loop : tie.InvT-loop
 Inv-loop part count from code level block left₀ left = (left ≤ from) × ((i : ℕ) → left ≤ i → i < from → Near level code (codeAt part i))
@@ -22,15 +23,16 @@ returns c =
     record {
       within = l .inv .0;
       near = l .inv .1;
-      ends = λ i e near. let before : 8 + 2 * i ≡ 6 + 2 * l .left = omega arith in c .if1 .taken (c .before .block-index2 .ensures ∙ rw (before) at near ∙ sym (block .ensures));
+      ends = λ i e near. let before : elementIndex i ≡ 6 + 2 * l .left = omega arith in c .if1 .taken (c .before .block-index2 .ensures ∙ rw (before) at near ∙ sym (block .ensures));
     }
 
 loop-again : tie.Need-loop-again Inv-loop μ-loop
 loop-again c =
-    let l = c .before .before .before .before .loop in
-    let block = c .before .before .before .before .before .block-index in
-    let a = c .before .before .before .before .before .before .before .args in
-    let before : 8 + 2 * (l .left - 1) ≡ 6 + 2 * l .left = omega arith in
+    let turn = c .before .before .before .before in
+    let l = turn .loop in
+    let block = turn .before .block-index in
+    let a = turn .before .before .before .args in
+    let before : elementIndex (l .left - 1) ≡ 6 + 2 * l .left = omega arith in
     let here = rw (← before) at (sym (c .before .block-index2 .ensures) ∙ c .if1 .left ∙ block .ensures) in
     (omega arith, near-with (a .part .now) (a .level) (a .code) (l .left - 1) (omega arith) here (l .inv .1))
 

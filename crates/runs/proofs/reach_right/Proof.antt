@@ -24,9 +24,10 @@ returns c =
 
 loop-again : tie.Need-loop-again Inv-loop μ-loop
 loop-again c =
-    let l = c .before .before .before .before .loop in
-    let block = c .before .before .before .before .before .block-index in
-    let a = c .before .before .before .before .before .before .before .args in
+    let turn = c .before .before .before .before in
+    let l = turn .loop in
+    let block = turn .before .block-index in
+    let a = turn .before .before .before .args in
     let here = sym (c .before .block-index2 .ensures) ∙ c .if1 .left ∙ block .ensures in
     (omega arith, omega arith, near-with (a .part .now) (a .level) (a .code) (l .right) (omega arith) here (l .inv .2))
 

@@ -9,6 +9,7 @@ use Rattle.saving.specs.Saving.{putFour, HeaderPut}
 use Rattle.saving.proofs.EntryWrites.{header-lands, length-headed}
 use Rattle.saving.proofs.put_header.Statement.{statement}
 use Rattle.saving.proofs.put_header.Tie as tie
+use Rattle.pktree.specs.Image.{headerLength}
 
 slice-write-output-2 : tie.Need-slice-write-output-2
 slice-write-output-2 c = simp length-set (omega arith)
@@ -20,7 +21,7 @@ put-four-requires-2 : tie.Need-put-four-requires-2
 put-four-requires-2 c κs = rw (c .before .before .before .put-four .ensures) (simp length-set (omega arith))
 
 -- the sizes below 256 and two calls of put_four are the ten bytes
-header-put : (before once twice : List ℕ) (order k e n : ℕ) → 10 ≤ length before → order ≤ 16 → k ≤ 16
+header-put : (before once twice : List ℕ) (order k e n : ℕ) → headerLength ≤ length before → order ≤ 16 → k ≤ 16
     → once ≡ putFour (set (set before 0 (order % 256)) 1 (k % 256)) 2 e → twice ≡ putFour once 6 n → HeaderPut before order k e n twice
 header-put before once twice order k e n h m l p q =
     let em : order % 256 ≡ order = omega arith in
@@ -29,9 +30,7 @@ header-put before once twice order k e n h m l p q =
     record { is = q ∙ ap (λ (o : List ℕ). putFour o 6 n) first ∙ header-lands before order k e n h }
 
 returns : tie.Need-returns
-returns c =
-    header-put _ _ _ _ _ _ _ (omega arith) (omega arith) (omega arith) (c .before .before .before .before .before .before .put-four .ensures)
-    (c .before .before .put-four2 .ensures)
+returns c = search (needs, header-put)
 
 same-length : tie.Need-same-length
 same-length c = length-headed (returns c) (omega arith)

@@ -11,7 +11,7 @@ pub save-pixel-spec : {M : Type 1} → statement M
 save-pixel-spec =
     tie.close
     (tie.spec
-    (λ c. search needs)
+    (λ c κs. search needs)
     (λ c. search (needs, no-room))
     (λ c κs. search needs)
     (λ c. search needs)

@@ -13,9 +13,6 @@ put-header-requires c κs =
     let valid = sizes-valid (a .pre .0 .0) (a .pre .0 .1) in
     (omega (arith, a .pre .1 .0), (valid .panel .order-to, valid .panel .k-to))
 
-layout-of-requires : tie.Need-layout-of-requires
-layout-of-requires c κs = let a = c .before .before .before .before .before .before in sizes-valid (a .pre .0 .0) (a .pre .0 .1)
-
 save-block-requires : tie.Need-save-block-requires
 save-block-requires c κs =
     let laid = c .before .before .before in
@@ -43,7 +40,7 @@ write-image-spec =
     (tie.spec
     (λ c. search needs)
     put-header-requires
-    layout-of-requires
+    (λ c κs. search (needs, sizes-valid))
     (λ c κs. search needs)
     (λ c κs. search needs)
     (λ c. search needs)

@@ -7,9 +7,10 @@ use lib.ListN.{length}
 use lib.Seq.{length-take-le}
 use Rattle.register.specs.declared.Saving.{Saving}
 use Rattle.register.specs.declared.Saving.the-variants as saving
-use Rattle.register.specs.Answer.{Answer, accepted, saveAnswer}
-use Rattle.register.specs.Effect.{passed, stopped}
-use Rattle.register.specs.Calls.{SaveMeets}
+use Rattle.promises.specs.Answer.{Answer, accepted}
+use Rattle.register.specs.Answer.{saveAnswer}
+use Rattle.promises.specs.Effect.{passed, stopped}
+use Rattle.promises.specs.Calls.{SaveMeets}
 use borrow.Author.Needs.{needs}
 use Rattle.show.proofs.print_register.Statement.{statement}
 use Rattle.show.proofs.print_register.Tie as tie
@@ -21,20 +22,8 @@ written-fits n (passed u w) =
     ⊎-elim (⊎-elim (λ b. omega (arith, b .room, b .long)) (λ b. absurd (omega (arith, ap (λ (a : Answer). a .refusal) (b .returns .is)))))
     (λ d. absurd (omega (arith, ap (λ (a : Answer). a .refusal) (d .0)))) (w .ends)
 
-fits-output : {words before after : List ℕ} (r : Saving) (n : ℕ) → r ≡ saving.Saved n → SaveMeets words before after (saveAnswer r) → n ≤ length after
-fits-output r n e m = written-fits n (rw e at m)
-
-slice-reshare-prefix-print-image : tie.Need-slice-reshare-prefix-print-image
-slice-reshare-prefix-print-image c =
-    let n = c .before .length .given .0 .0 in
-    let save = c .before .before .before .before .before .save in
-    fits-output (save .result) n (c .before .length .given .1) (save .ensures)
-
-slice-aggregate-print-image : tie.Need-slice-aggregate-print-image
-slice-aggregate-print-image c =
-    let n = c .before .before .length .given .0 .0 in
-    let save = c .before .before .before .before .before .before .save in
-    sym (length-take-le n (save .last .1 .0) (fits-output (save .result) n (c .before .before .length .given .1) (save .ensures)))
+fits-output : {words before after : List ℕ} {r : Saving} {n : ℕ} → r ≡ saving.Saved n → SaveMeets words before after (saveAnswer r) → n ≤ length after
+fits-output {n = n} e m = written-fits n (rw e at m)
 
 pub print-register-spec : {M : Type 1} → statement M
 print-register-spec =
@@ -46,8 +35,8 @@ print-register-spec =
     (λ c κs. search needs)
     (λ c. search needs)
     (λ c. search needs)
-    slice-reshare-prefix-print-image
-    slice-aggregate-print-image
+    (λ c. search (needs, fits-output))
+    (λ c. let saved = c .before .before in sym (length-take-le _ _ (fits-output (saved .length .given .1) (saved .before .before .before .before .save .ensures))))
     (λ c κs. search needs)
     (λ c. search needs)
     (λ c. search needs))

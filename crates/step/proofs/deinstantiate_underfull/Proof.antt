@@ -12,7 +12,7 @@ returns-2 : tie.Need-returns-2
 returns-2 c = (inr (c .if2 .taken), refl, refl)
 
 hand-up-all-requires : tie.Need-hand-up-all-requires
-hand-up-all-requires c κs = c .before .before .before .before .before .before .before .pre (c .before .before .if2 .left)
+hand-up-all-requires c κs = let f = c .before .before in f .before .before .before .before .before .pre (f .if2 .left)
 
 returns-3 : tie.Need-returns-3
 returns-3 c =

@@ -1,53 +1,43 @@
 -- `step::put` meets its contract: the tests are those of a splice that can be done, and `splice_slot` does it.
 use native.Mathlib.Omega.{arith}
-use mathlib.Core.Path.{refl, ap, _∙_}
-use Prim.Native.Nat.{ℕ, _+_, _-_}
+use Prim.Native.Nat.{ℕ, _+_, _-_, _/_, _≤_}
+use mathlib.Core.Path.{_≡_, refl, ap, _∙_}
 use borrow.Author.Needs.{needs}
+use Rattle.measures.specs.Slot.{slotPart, countWord}
+use Rattle.store.specs.Splice.{CanSplice}
 use Rattle.step.proofs.PutLaws.{count-at, put-can, put-cannot}
 use Rattle.step.proofs.put.Statement.{statement}
 use Rattle.step.proofs.put.Tie as tie
 
-returns : tie.Need-returns
-returns c =
-    let a = c .before .before .before .before .before .before .before in
-    let o = c .before .before .before .before .offset .ensures in
-    let e = c .before .wide .ensures ∙ count-at (a .args .layout) (a .args .store .now) (a .args .slot) _ (a .pre .fits) (a .pre .slot-below) o in
-    (refl, λ can. omega (arith, c .if1 .taken, put-cannot (a .args .layout) (a .args .store .now) (a .args .slot) _ (a .pre .fits) (a .pre .slot-below) o _ _ _ _ _ e can))
+abbrev start : tie.After-wide → tie.Start
+start c = c .before .before .before .before .before .before
 
-returns-2 : tie.Need-returns-2
-returns-2 c =
-    let a = c .before .before .before .before .before .before .before .before in
-    let o = c .before .before .before .before .before .offset .ensures in
-    let e = c .before .before .wide .ensures ∙ count-at (a .args .layout) (a .args .store .now) (a .args .slot) _ (a .pre .fits) (a .pre .slot-below) o in
-    (refl, λ can. omega (arith, c .if2 .taken, put-cannot (a .args .layout) (a .args .store .now) (a .args .slot) _ (a .pre .fits) (a .pre .slot-below) o _ _ _ _ _ e can))
+-- the number of elements that was read
+count-is : (c : tie.After-wide) → (let a = start c .args in c .wide .result ≡ countWord (slotPart (a .layout .width) (a .store .now) (a .slot)))
+count-is c = let p = start c .pre in c .wide .ensures ∙ count-at (p .fits) (p .slot-below) (c .before .before .before .offset .ensures)
 
-returns-3 : tie.Need-returns-3
-returns-3 c =
-    let a = c .before .before .before .before .before .before .before .before .before in
-    let o = c .before .before .before .before .before .before .offset .ensures in
-    let e = c .before .before .before .wide .ensures ∙ count-at (a .args .layout) (a .args .store .now) (a .args .slot) _ (a .pre .fits) (a .pre .slot-below) o in
-    (refl, λ can. omega (arith, c .if3 .taken, put-cannot (a .args .layout) (a .args .store .now) (a .args .slot) _ (a .pre .fits) (a .pre .slot-below) o _ _ _ _ _ e can))
+-- a splice that can be done passes the tests
+passes : (c : tie.After-wide) → (let a = start c .args in
+    let room = (a .layout .width - 8) / 2 in
+    CanSplice (slotPart (a .layout .width) (a .store .now) (a .slot)) (a .scratch .now) (a .place) (a .removed) (a .inserted)
+    → (c .wide .result ≤ room) × (a .place + a .removed ≤ c .wide .result) × (c .wide .result - a .removed + a .inserted ≤ room))
+passes c = let p = start c .pre in put-cannot (p .fits) (p .slot-below) (c .before .before .before .offset .ensures) (count-is c)
 
 splice-slot-requires : tie.Need-splice-slot-requires
 splice-slot-requires c κs =
     let d = c .before .before .before .before in
-    let a = d .before .before .before .before .before .before in
-    let o = d .before .before .before .offset .ensures in
-    let e = d .wide .ensures ∙ count-at (a .args .layout) (a .args .store .now) (a .args .slot) _ (a .pre .fits) (a .pre .slot-below) o in (
-      (a .pre .fits, a .pre .slot-below),
-      put-can (a .args .layout) (a .args .store .now) (a .args .slot) _ (a .pre .fits) (a .pre .slot-below) o (d .wide .result) (a .args .place) (a .args .removed) (a .args .inserted)
-          (a .args .scratch .now) e (omega (arith, c .before .before .before .if1 .left)) (omega (arith, c .before .before .if2 .left)) (omega (arith, c .before .if3 .left))
-          (omega (arith, a .pre .room, a .pre .inserted-to)),
+    let p = start d .pre in (
+      (p .fits, p .slot-below),
+      put-can (p .fits) (p .slot-below) (d .before .before .before .offset .ensures) (count-is d) (omega (arith, c .before .before .before .if1 .left))
+          (omega (arith, c .before .before .if2 .left)) (omega (arith, c .before .if3 .left)) (omega (arith, p .room, p .inserted-to)),
     )
 
 returns-4 : tie.Need-returns-4
 returns-4 c =
     let s = c .before .before in
     let d = s .before .before .before .before .before in
-    let a = d .before .before .before .before .before .before in
-    let o = d .before .before .before .offset .ensures in
-    let e = d .wide .ensures ∙ count-at (a .args .layout) (a .args .store .now) (a .args .slot) _ (a .pre .fits) (a .pre .slot-below) o in
-    (ap (λ (n : ℕ). n - a .args .removed + a .args .inserted) e, splice-slot-requires (s .before) (s .splice-slot .lifetimes) .1, s .splice-slot .ensures)
+    let a = start d .args in
+    (ap (λ (n : ℕ). n - a .removed + a .inserted) (count-is d), splice-slot-requires (s .before) (s .splice-slot .lifetimes) .1, s .splice-slot .ensures)
 
 pub put-spec : {M : Type 1} → statement M
 put-spec =
@@ -59,12 +49,12 @@ put-spec =
     (λ c. search needs)
     (λ c. search needs)
     (λ c κs. search needs)
-    returns
+    (λ c. (refl, λ can. omega (arith, c .if1 .taken, passes (c .before) can)))
     (λ c. search needs)
-    returns-2
+    (λ c. (refl, λ can. omega (arith, c .if2 .taken, passes (c .before .before) can)))
     (λ c. search needs)
     (λ c. search needs)
-    returns-3
+    (λ c. (refl, λ can. omega (arith, c .if3 .taken, passes (c .before .before .before) can)))
     splice-slot-requires
     (λ c. search needs)
     returns-4)

@@ -1,7 +1,6 @@
 -- `walks::enter` meets its contract: each way out is a law of EnteredSlot.
 use borrow.Author.Needs.{needs}
-use native.Mathlib.Omega.{arith}
-use Rattle.measures.proofs.Usable.{part-length}
+use Rattle.measures.proofs.Usable.{part-has-head, part-narrow}
 use Rattle.walks.proofs.EnteredSlot.{too-high, no-slot, as-said}
 use Rattle.walks.proofs.enter.Statement.{statement}
 use Rattle.walks.proofs.enter.Tie as tie
@@ -14,5 +13,5 @@ enter-spec =
     (λ c κs. search needs)
     (λ c. search (needs, no-slot))
     (λ c κs. search needs)
-    (λ c κs. part-length (c .before .before .before .before .before .before .pre) (omega arith) (c .slot-part .ensures))
+    (λ c κs. search (needs, part-has-head, part-narrow))
     (λ c. search (needs, as-said)))

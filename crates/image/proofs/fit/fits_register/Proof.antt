@@ -6,15 +6,7 @@ use Rattle.image.proofs.fit.fits_register.Statement.{statement}
 use Rattle.image.proofs.fit.fits_register.Tie as tie
 
 returns-3 : tie.Need-returns-3
-returns-3 c =
-    let p = c .before .before .before .before .before .before .before .before .before .args in
-    leb-decides (c .before .pixel-number .result) (p .sizes .most) _
-    (λ h. record {
-      order = omega (arith, c .before .before .before .before .before .before .before .byte-at .ensures, c .before .before .before .before .before .if1 .left);
-      k = omega (arith, c .before .before .before .before .byte-at2 .ensures, c .before .before .if2 .left);
-      pixels = omega (arith, c .before .pixel-number .ensures);
-    })
-    (λ h fits. omega (arith, c .before .pixel-number .ensures, fits .pixels))
+returns-3 c = leb-decides (c .before .pixel-number .result) _ _ (λ h. record { order = omega arith; k = omega arith; pixels = omega arith }) (λ h fits. omega (arith, fits .pixels))
 
 pub fits-register-spec : {M : Type 1} → statement M
 fits-register-spec = tie.close (tie.spec (λ c κs. search needs) (λ c. search needs) (λ c κs. search needs) (λ c. search needs) (λ c κs. search needs) returns-3)

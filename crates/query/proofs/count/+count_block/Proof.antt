@@ -22,11 +22,11 @@ abbrev μ-block : Measures 1 kinds.ps ℕ
 μ-block κs a = a .1 .1 .0
 
 abbrev Inv-loop : lts.InvT-loop
-Inv-loop store look above slot level code found opened count part pixels₀ blocks₀ i₀ pixels blocks i =
-    InLoop (Counts look) (look .layout) store above slot level code count part i (pixels₀, blocks₀) (pixels, blocks)
+Inv-loop store range above slot level code found opened count part pixels₀ blocks₀ i₀ pixels blocks i =
+    InLoop (Counts range) (range .layout) store above slot level code count part i (pixels₀, blocks₀) (pixels, blocks)
 
 abbrev μ-loop : lts.MeasureT-loop
-μ-loop store look above slot level code found opened count part pixels₀ blocks₀ i₀ pixels blocks i = count - i
+μ-loop store range above slot level code found opened count part pixels₀ blocks₀ i₀ pixels blocks i = count - i
 
 pub +count-block-spec : {M : Type 1} → statement M
 +count-block-spec = close μ-block λ t. lts.spec

@@ -4,7 +4,7 @@ use borrow.Author.Needs.{needs}
 use borrow.Fn.PlainCycle.{Measures}
 use mathlib.Core.Logic.{⊎-elim}
 use Rattle.walks.proofs.Walks.{InLoop, entered-below, loop-begins, turns-pixel, turns-block}
-use Rattle.saving.specs.Tally.{Tallied}
+use Rattle.saving.specs.Numbers.{Tallied}
 use Rattle.saving.proofs.Tallies.{tally-walk, pixel-passed, tally-full, tally-barred, tally-whole}
 use Rattle.measures.proofs.slots.wide.Reads as wide
 use Rattle.walks.proofs.enter.Reads as enter

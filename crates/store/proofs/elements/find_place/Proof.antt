@@ -6,6 +6,7 @@ use borrow.Author.Needs.{needs}
 use Rattle.store.specs.Splice.{codeAt}
 use Rattle.store.proofs.elements.find_place.Statement.{statement}
 use Rattle.store.proofs.elements.find_place.Tie as tie
+use Rattle.measures.specs.Slot.{elementIndex}
 
 abbrev Inv-loop : tie.InvT-loop
 Inv-loop part count code place₀ place = (place ≤ count) × (place < count → code < codeAt part place)
@@ -19,12 +20,12 @@ loop-holds c = (omega arith, λ h. absurd (omega arith))
 returns : tie.Need-returns Inv-loop μ-loop
 returns c =
     let l = c .before .before .before .loop in
-    record { within = l .inv .0; before = λ i e. let h : 8 + 2 * i ≡ 6 + 2 * l .place = omega arith in rw h (omega (arith, c .if1 .taken)); after = l .inv .1 }
+    record { within = l .inv .0; before = λ i e. let h : elementIndex i ≡ 6 + 2 * l .place = omega arith in rw h (omega (arith, c .if1 .taken)); after = l .inv .1 }
 
 loop-again : tie.Need-loop-again Inv-loop μ-loop
 loop-again c =
     let l = c .before .before .before .loop in
-    (omega arith, λ t. let h : 8 + 2 * (l .place - 1) ≡ 6 + 2 * l .place = omega arith in rw h (omega (arith, c .if1 .left)))
+    (omega arith, λ t. let h : elementIndex (l .place - 1) ≡ 6 + 2 * l .place = omega arith in rw h (omega (arith, c .if1 .left)))
 
 returns-2 : tie.Need-returns-2 Inv-loop μ-loop
 returns-2 c = let l = c .before .loop in record { within = l .inv .0; before = λ i e. absurd (omega arith); after = l .inv .1 }

@@ -4,19 +4,24 @@ use native.Mathlib.Omega.{arith}
 use mathlib.Core.Path.{_≡_, refl, sym, _∙_}
 use lib.ListN.{getD}
 use borrow.Author.Needs.{needs}
+use Rattle.measures.specs.Layout.{narrowestSlot}
+use Rattle.measures.specs.Words.{firstFreeWord}
 use Rattle.measures.specs.Slot.{slotPart}
 use Rattle.measures.proofs.SlotWrites.{slot-word}
 use Rattle.store.proofs.free.take_free.Statement.{statement}
 use Rattle.store.proofs.free.take_free.Tie as tie
 
+abbrev startOf : tie.After-offset → tie.Start
+startOf c = c .before .before .before .before .before .before .before
+
 -- a word of the slot that word 7 names
-free-word : (c : tie.After-offset) (i j : ℕ) → i ≡ c .offset .result + j → j < 18
-    → (let a = c .before .before .before .before .before .before .before .args in
-    getD (slotPart (a .layout .width) (a .store .now) (getD (a .store .now) 7 0)) j 0 ≡ getD (a .store .now) i 0)
+free-word : (c : tie.After-offset) (i j : ℕ) → i ≡ c .offset .result + j → j < narrowestSlot
+    → (let a = startOf c .args in
+    getD (slotPart (a .layout .width) (a .store .now) (firstFreeWord (a .store .now))) j 0 ≡ getD (a .store .now) i 0)
 free-word c i j e h =
-    let a = c .before .before .before .before .before .before .before .args in
+    let a = startOf c .args in
     let at = rw (c .before .wide2 .ensures) at (c .offset .ensures .is) in
-    slot-word (a .layout .width) (getD (a .store .now) 7 0) (a .store .now) i j (omega arith) (omega arith)
+    slot-word (a .layout .width) (firstFreeWord (a .store .now)) (a .store .now) i j (omega arith) (omega arith)
 
 returns-2 : tie.Need-returns-2
 returns-2 c = (refl, λ inside free. c .if2 .taken (sym (free-word (c .before .before) _ 0 (omega arith) (omega arith)) ∙ free))

@@ -4,9 +4,11 @@ use native.Mathlib.Omega.{arith}
 use mathlib.Core.Path.{_∙_}
 use lib.ListN.{length-set}
 use borrow.Author.Needs.{needs}
+use Rattle.store.specs.FreeSlots.{noSlot}
 use Rattle.store.proofs.AllFree.{FreedFrom, none-freed, one-more-freed, all-freed}
 use Rattle.store.proofs.reset.free_all.Statement.{statement}
 use Rattle.store.proofs.reset.free_all.Tie as tie
+use Rattle.measures.specs.Words.{firstFreeIndex}
 
 abbrev Inv-loop : tie.InvT-loop
 Inv-loop store₀ layout slot₀ store slot = (1 ≤ slot) × (slot ≤ layout .slots) × FreedFrom layout slot store₀ store
@@ -20,7 +22,7 @@ loop-holds c = (omega arith, omega arith, none-freed (c .before .args .layout) (
 release-requires : tie.Need-release-requires Inv-loop μ-loop
 release-requires c κs =
     let s = c .before .before .before .before in
-    (record { within = s .pre .within; lies = omega (arith, c .before .before .loop .inv .2 .long, length-set (s .args .store .now) 7 0xFFFFFFFF) }, omega arith)
+    (record { within = s .pre .within; lies = omega (arith, c .before .before .loop .inv .2 .long, length-set (s .args .store .now) firstFreeIndex noSlot) }, omega arith)
 
 loop-again : tie.Need-loop-again Inv-loop μ-loop
 loop-again c =
@@ -29,7 +31,7 @@ loop-again c =
     (omega arith, omega arith, one-more-freed _ (l .slot) _ (l .store) (r .last .0) (omega arith) (omega arith) (l .inv .2) (r .ensures))
 
 same-length : tie.Need-same-length Inv-loop μ-loop
-same-length c = c .before .loop .inv .2 .long ∙ length-set (c .before .before .before .args .store .now) 7 0xFFFFFFFF
+same-length c = c .before .loop .inv .2 .long ∙ length-set (c .before .before .before .args .store .now) firstFreeIndex noSlot
 
 returns : tie.Need-returns Inv-loop μ-loop
 returns c = all-freed _ (c .before .loop .slot) (c .before .before .before .args .store .now) _ (omega arith) (c .before .loop .inv .2)

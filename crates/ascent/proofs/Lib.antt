@@ -1,0 +1,11 @@
+pub mod Frames
+pub mod SlotCounts
+pub mod FramesStand
+pub mod FramesOfSound
+pub mod FormedAt
+pub mod RunLaw
+pub mod Pending
+pub mod Around
+pub mod HandUp
+pub mod SlotForBlock
+pub mod Completed

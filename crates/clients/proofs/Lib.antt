@@ -1,0 +1,4 @@
+pub mod Marks
+pub mod Readings
+pub mod WholeImage
+pub mod Spoils

@@ -1,0 +1,163 @@
+-- What the calls that only read answer on the first panel: by equation, and worked out.
+use Prim.Native.Nat.{ℕ, _≤_, _<_}
+use native.Mathlib.Omega.{arith}
+use mathlib.Core.Path.{_≡_, refl, ap, sym, subst, _∙_}
+use mathlib.Core.List.{List, [], _∷_, _++_}
+use lib.ListN.{length, drop}
+use Rattle.morton.specs.Code.{interleave, gatherBits, codeOf}
+use Rattle.pktree.specs.Panel.{HasPixel}
+use Rattle.pktree.specs.PixelSet.{member}
+use Rattle.pktree.specs.Elements.{gather}
+use Rattle.pktree.specs.Tree.{tree}
+use Rattle.pktree.specs.Window.{someFrom, found, openedByPixel, openedByWindow}
+use Rattle.pktree.specs.Image.{image}
+use Rattle.measures.specs.declared.sizes.Sizes.{Sizes}
+use Rattle.measures.specs.Sizes.{panelOf, sizesOf}
+use Rattle.refusals.specs.Judged.{HasPixelOn, CornersOn}
+use Rattle.loading.specs.Loaded.{HasImage}
+use Rattle.promises.specs.Answer.{Answer, accepted, yesNo}
+use Rattle.promises.specs.Calls.{asked, MarkMeets, ClearMeets, AskMeets, windowGiven, CountMeets, ListMeets, SaveMeets, LoadMeets, CheckMeets}
+use Rattle.promises.proofs.Answers.{refusal-of}
+use Rattle.promises.proofs.Exactly.{image-loaded, check-answers}
+use Rattle.promises.proofs.OnSound.{mark-already, clear-unmarked, clear-removes, ask-answers, count-answers, list-writes, list-short, save-writes, save-short}
+use Rattle.clients.specs.Known.{firstSet, HoldsOf9, HoldsFirst, firstImage, PanelAsked, PanelListed, PanelSaved, ClearedListed, SpoiltOf9}
+
+-- the set is one of the panel, and its image is these bytes, by computation
+has-image : HasImage (panelOf (asked 3 3 9)) 9 firstImage firstSet
+unfolding gather
+has-image = record {
+  on-panel = record {
+    ascending = (omega arith, (omega arith, (omega arith, (omega arith, tt))));
+    on-panel = (omega arith, (omega arith, (omega arith, (omega arith, tt))));
+  };
+  room = omega arith;
+  is = refl;
+}
+
+-- what the definitions say of it, by computation
+marked-0 : accepted (yesNo (member firstSet (codeOf 0 0))) (openedByPixel (codeOf 0 0) (tree (panelOf (asked 3 3 9)) (member firstSet))) ≡ accepted 1 2
+unfolding interleave gather
+marked-0 = refl
+
+unmarked-3 : accepted (yesNo (member firstSet (codeOf 1 1))) (openedByPixel (codeOf 1 1) (tree (panelOf (asked 3 3 9)) (member firstSet))) ≡ accepted 0 2
+unfolding interleave gather
+unmarked-3 = refl
+
+abbrev foundOpened : ℕ → ℕ → ℕ → ℕ → Answer
+foundOpened x0 y0 x1 y1 =
+    accepted (length (found (windowGiven x0 y0 x1 y1) firstSet)) (openedByWindow (windowGiven x0 y0 x1 y1) (tree (panelOf (asked 3 3 9)) (member firstSet)))
+
+upper-right : foundOpened 4 4 7 7 ≡ accepted 1 1
+unfolding gather gatherBits someFrom
+upper-right = refl
+
+all-codes : found (windowGiven 0 0 7 7) firstSet ≡ firstSet
+unfolding gatherBits
+all-codes = refl
+
+all-found : foundOpened 0 0 7 7 ≡ accepted 4 2
+unfolding gather gatherBits someFrom
+all-found = refl
+
+image-is : image (panelOf (asked 3 3 9)) firstSet ≡ firstImage
+unfolding gather
+image-is = refl
+
+pub marked-first : {start words : List ℕ} → HoldsOf9 firstSet start words → HoldsFirst words
+marked-first h = record { holds = h .holds; sizes-are = h .sizes-are }
+
+pub ask-marked : {a : Answer} → PanelAsked 0 0 a → a ≡ accepted 1 2
+ask-marked p = p .says (omega arith, omega arith) ∙ marked-0
+
+pub ask-unmarked : {a : Answer} → PanelAsked 1 1 a → a ≡ accepted 0 2
+ask-unmarked p = p .says (omega arith, omega arith) ∙ unmarked-3
+
+module _ {words : List ℕ} (h : HoldsFirst words) where
+  on-9 : {x y : ℕ} → HasPixel (panelOf (asked 3 3 9)) x y → HasPixelOn words x y
+  on-9 {x} {y} on = subst (λ (s : Sizes). HasPixel (panelOf s) x y) (sym (h .sizes-are)) on
+
+  -- the window's corners are on its panel
+  corners : {x0 y0 x1 y1 : ℕ} → HasPixel (panelOf (asked 3 3 9)) x0 y0 × HasPixel (panelOf (asked 3 3 9)) x1 y1 → CornersOn words x0 y0 x1 y1
+  corners {x0} {y0} {x1} {y1} on = subst (λ (s : Sizes). HasPixel (panelOf s) x0 y0 × HasPixel (panelOf s) x1 y1) (sym (h .sizes-are)) on
+
+  -- its image, of the sizes that it was made with
+  image-of-panel : image (panelOf (sizesOf words)) firstSet ≡ firstImage
+  image-of-panel = subst (λ (s : Sizes). image (panelOf s) firstSet ≡ firstImage) (sym (h .sizes-are)) image-is
+
+module _ {words : List ℕ} (h : HoldsFirst words) {a : Answer} where
+  pub asked-panel : {x y : ℕ} → AskMeets words x y a → PanelAsked x y a
+  asked-panel {x} {y} m = record {
+    says = λ on. subst
+        (λ (s : Sizes). HasPixel (panelOf s) x y → a ≡ accepted (yesNo (member firstSet (codeOf x y))) (openedByPixel (codeOf x y) (tree (panelOf s) (member firstSet))))
+        (h .sizes-are) (ask-answers (h .holds) m) on;
+  }
+
+  pub counted-panel : CountMeets words 4 4 7 7 a → a ≡ accepted 1 1
+  counted-panel m =
+      subst
+      (λ (s : Sizes). a ≡ accepted (length (found (windowGiven 4 4 7 7) firstSet)) (openedByWindow (windowGiven 4 4 7 7) (tree (panelOf s) (member firstSet))))
+      (h .sizes-are) (count-answers (h .holds) (corners h ((omega arith, omega arith), (omega arith, omega arith))) (omega arith, omega arith) m)
+      ∙ upper-right
+
+  pub listed-panel : {before after : List ℕ} → ListMeets words 0 0 7 7 before after a → PanelListed before after a
+  listed-panel {before} m =
+      let on : CornersOn words 0 0 7 7 = corners h ((omega arith, omega arith), (omega arith, omega arith)) in
+      record {
+        written = λ room. let w = list-writes (h .holds) on (omega arith, omega arith) m (rw all-codes room) in (
+          subst
+              (λ (s : Sizes). a ≡ accepted (length (found (windowGiven 0 0 7 7) firstSet)) (openedByWindow (windowGiven 0 0 7 7) (tree (panelOf s) (member firstSet))))
+              (h .sizes-are) (w .0)
+              ∙ all-found,
+          rw all-codes at (w .1),
+        );
+        lacking = λ lacks. let r = list-short (h .holds) on (omega arith, omega arith) m (rw all-codes lacks) in (r .0, rw all-codes at (r .1), r .3);
+      }
+
+  pub saved-panel : {before after : List ℕ} → SaveMeets words before after a → PanelSaved before after a
+  saved-panel {before} {after} m =
+      let is = image-of-panel h in
+      record {
+        written = λ room. let w = save-writes (h .holds) m (subst (λ (b : List ℕ). length b ≤ length before) (sym is) room) in (
+          subst (λ (b : List ℕ). a ≡ accepted (length b) 0) is (w .0),
+          subst (λ (b : List ℕ). after ≡ b ++ drop (length b) before) is (w .1),
+        );
+        lacking = λ lacks. let r = save-short (h .holds) m (subst (λ (b : List ℕ). length before < length b) (sym is) lacks) in (
+          r .0,
+          r .1 ∙ ap length is,
+          r .3,
+        );
+      }
+
+  pub checked-panel : CheckMeets words a → a ≡ accepted 1 0
+  checked-panel m = check-answers m .yes .1 (record { placed = h .holds .placed; sound = h .holds .sound })
+
+-- after a clear, and of calls that are refused
+module _ {words : List ℕ} (h : HoldsFirst words) {after : List ℕ} {a : Answer} where
+  pub marked-again : {r : ℕ} → MarkMeets words after 6 6 a → r ≡ a .refusal → r ≡ 5
+  unfolding interleave
+  marked-again m e = e ∙ refusal-of (mark-already (h .holds) (on-9 h (omega arith, omega arith)) m refl .is)
+
+  pub not-marked : {r : ℕ} → ClearMeets words after 1 1 a → r ≡ a .refusal → r ≡ 7
+  unfolding interleave
+  not-marked m e = e ∙ refusal-of (clear-unmarked (h .holds) (on-9 h (omega arith, omega arith)) m refl .is)
+
+  pub cleared-listed : {b : Answer} {before written : List ℕ} → ClearMeets words after 1 0 a → ListMeets after 0 0 7 7 before written b → ClearedListed before written b
+  unfolding interleave gather gatherBits someFrom
+  cleared-listed {b} m l =
+      let c = clear-removes (h .holds) (on-9 h (omega arith, omega arith)) m refl in
+      let s = c .sizes-are ∙ h .sizes-are in
+      let on : CornersOn after 0 0 7 7 =
+      subst (λ (z : Sizes). HasPixel (panelOf z) 0 0 × HasPixel (panelOf z) 7 7) (sym s) ((omega arith, omega arith), (omega arith, omega arith)) in
+      record {
+        written = λ room. let w = list-writes (c .holds) on (omega arith, omega arith) l room in (
+          subst (λ (z : Sizes). b ≡ accepted 3 (openedByWindow (windowGiven 0 0 7 7) (tree (panelOf z) (member (0 ∷ 2 ∷ 60 ∷ []))))) s (w .0),
+          w .1,
+        );
+      }
+
+-- a damaged store of these sizes holds the image's set once it is loaded
+pub mended-panel : {words after bytes : List ℕ} {a : Answer} → SpoiltOf9 words → bytes ≡ firstImage → LoadMeets words after bytes a → HoldsFirst after
+mended-panel {words} s e m =
+    let has = subst (λ (z : Sizes). HasImage (panelOf z) (z .most) firstImage firstSet) (sym (s .sizes-are)) has-image in
+    let b = image-loaded m (s .usable) (subst (λ (l : List ℕ). HasImage (panelOf (sizesOf words)) (sizesOf words .most) l firstSet) (sym e) has) in
+    record { holds = b .holds; sizes-are = b .sizes-are ∙ s .sizes-are }

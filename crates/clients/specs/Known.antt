@@ -1,0 +1,92 @@
+-- What the clients know. First of 01's first sample panel as a register (m = 3, k = 3, N = 9, with codes 0, 1, 2 and 60), then of such a register
+-- that something else overwrote, last of any words.
+use Prim.Native.Nat.{ℕ, _≤_, _<_}
+use mathlib.Core.Path.{_≡_}
+use mathlib.Core.List.{List, [], _∷_, _++_}
+use lib.ListN.{length, getD, take, drop}
+use Rattle.morton.specs.Code.{codeOf}
+use Rattle.pktree.specs.Panel.{HasPixel}
+use Rattle.pktree.specs.PixelSet.{member}
+use Rattle.pktree.specs.Tree.{tree}
+use Rattle.pktree.specs.Window.{openedByPixel}
+use Rattle.measures.specs.Sizes.{panelOf, sizesOf, UsableStore}
+use Rattle.store.specs.Sound.{Holds}
+use Rattle.promises.specs.Answer.{Answer, accepted, yesNo}
+use Rattle.promises.specs.Walk.{Spoiled}
+use Rattle.promises.specs.Calls.{asked, imageOf}
+use mathlib.Core.Logic.{_⊎_}
+
+abbrev pub firstSet : List ℕ
+firstSet = 0 ∷ 1 ∷ 2 ∷ 60 ∷ []
+
+-- a register of these sizes that holds this set, where another store was; of that, the 148 words of the formula and no more were written
+pub record HoldsOf9 (set before after : List ℕ) : Type 0 where
+  pub holds : Holds after set
+  pub sizes-are : sizesOf after ≡ asked 3 3 9
+  pub past : drop 148 after ≡ drop 148 before
+  pub long : length after ≡ length before
+
+-- the first panel, wherever it came from
+pub record HoldsFirst (words : List ℕ) : Type 0 where
+  pub holds : Holds words firstSet
+  pub sizes-are : sizesOf words ≡ asked 3 3 9
+
+-- 01: its image
+abbrev pub firstImage : List ℕ
+firstImage =
+    (3 ∷ 3 ∷ 6 ∷ 0 ∷ 0 ∷ 0 ∷ 4 ∷ 0 ∷ 0 ∷ 0 ∷ [])
+    ++ ((0 ∷ 0 ∷ 0 ∷ 0 ∷ 0 ∷ 0 ∷ 0 ∷ 0 ∷ 0 ∷ 0 ∷ 0 ∷ 0 ∷ 1 ∷ 0 ∷ 0 ∷ 0 ∷ 2 ∷ 0 ∷ 0 ∷ 0 ∷ 60 ∷ 0 ∷ 0 ∷ 0 ∷ [])
+    ++ (3 ∷ 1 ∷ 0 ∷ 0 ∷ 0 ∷ 0 ∷ []))
+
+-- ask: whether the code is in the set, and how many blocks of its tree contain it
+pub record PanelAsked (x y : ℕ) (a : Answer) : Type 0 where
+  pub says : HasPixel (panelOf (asked 3 3 9)) x y
+      → a ≡ accepted (yesNo (member firstSet (codeOf x y))) (openedByPixel (codeOf x y) (tree (panelOf (asked 3 3 9)) (member firstSet)))
+
+-- list of the whole panel: its four codes in rising order, two blocks opened; or 9 with the words needed
+pub record PanelListed (before after : List ℕ) (a : Answer) : Type 0 where
+  pub written : 4 ≤ length before → (a ≡ accepted 4 2) × (after ≡ firstSet ++ drop 4 before)
+  pub lacking : length before < 4 → (a .refusal ≡ 9) × (a .first ≡ 4) × (after ≡ before)
+
+-- save: the forty bytes; or 9 with the bytes needed
+pub record PanelSaved (before after : List ℕ) (a : Answer) : Type 0 where
+  pub written : 40 ≤ length before → (a ≡ accepted 40 0) × (after ≡ firstImage ++ drop 40 before)
+  pub lacking : length before < 40 → (a .refusal ≡ 9) × (a .first ≡ 40) × (after ≡ before)
+
+-- list of the whole panel after code 1 was cleared: the root alone is opened
+pub record ClearedListed (before after : List ℕ) (a : Answer) : Type 0 where
+  pub written : 3 ≤ length before → (a ≡ accepted 3 1) × (after ≡ (0 ∷ 2 ∷ 60 ∷ []) ++ drop 3 before)
+
+-- words 4 to 147 are FFFFFFFF, words 0 to 3 as they were
+pub record Overwritten (before after : List ℕ) : Type 0 where
+  pub head : take 4 after ≡ take 4 before
+  pub long : length after ≡ length before
+  pub spoilt : (i : ℕ) → 4 ≤ i → i < 148 → getD after i 0 ≡ 0xFFFFFFFF
+
+pub record SpoiltOf9 (words : List ℕ) : Type 0 where
+  pub usable : UsableStore words
+  pub sizes-are : sizesOf words ≡ asked 3 3 9
+  pub spoilt : Spoiled words
+
+-- 01: 13, and 3 from the call after it
+pub record DamagedThenUnusable (first second : ℕ) : Type 0 where
+  pub damaged : first ≡ 13
+  pub unusable : second ≡ 3
+
+-- a refused call changed nothing: a coordinate that is on no panel gives 3 or 4
+pub record OffEveryPanel (before after : List ℕ) (r : ℕ) : Type 0 where
+  pub number : (r ≡ 3) ⊎ (r ≡ 4)
+  pub same : after ≡ before
+
+-- 9 comes with the length of the image
+pub record BytesNeeded (words : List ℕ) (r : ℕ) : Type 0 where
+  pub says : (set : List ℕ) → Holds words set → r ≡ length (imageOf words set)
+
+-- into the first bytes, where they are as many
+pub record FrontSaved (words before after : List ℕ) (n r : ℕ) : Type 0 where
+  pub saved : (set : List ℕ) → Holds words set → n ≡ length (imageOf words set) → (r ≡ n) × (after ≡ imageOf words set ++ drop n before)
+
+-- the length is asked for first, and then suffices: on a sound store the whole image is in the output, the rest of it as it was
+pub record SavedWhole (words before after : List ℕ) (r : ℕ) : Type 0 where
+  pub saved : (set : List ℕ) → Holds words set → length (imageOf words set) ≤ length before
+      → (r ≡ length (imageOf words set)) × (after ≡ imageOf words set ++ drop (length (imageOf words set)) before)

@@ -1,0 +1,143 @@
+ghost use Prim.Native.Nat.{_≤_};
+ghost use mathlib.Core.Path.{_≡_};
+ghost use lib.ListN.{length};
+ghost use Rattle.promises.specs.Answer.{accepted};
+ghost use Rattle.register.specs.Answer.{askAnswer, countAnswer, listAnswer, saveAnswer};
+ghost use Rattle.clients.specs.Known.{firstSet, HoldsOf9, PanelAsked, PanelListed, PanelSaved, ClearedListed};
+use register::Asking;
+use register::Counting;
+use register::Listing;
+use register::Saving;
+use register::refusal_of;
+
+// 01's first sample panel, marked pixel by pixel.
+fn first_panel(store: &mut [u32])
+    requires { ⌜ 148 ≤ length (now store) ⌝ }
+    ensures { λ _. ⌜ HoldsOf9 firstSet (now (store .entry)) (now (store .exit)) ⌝ }
+{
+    register::make(store, 3, 3, 9);
+    register::mark(store, 0, 0);
+    register::mark(store, 1, 0);
+    register::mark(store, 0, 1);
+    register::mark(store, 6, 6);
+}
+
+// ask on it.
+fn ask_panel(store: &mut [u32], x: u32, y: u32) -> Asking
+    requires { ⌜ 148 ≤ length (now store) ⌝ }
+    ensures { λ r. ⌜ PanelAsked x y (askAnswer r) ⌝ }
+{
+    first_panel(store);
+    register::ask(store, x, y)
+}
+
+// 01: (0, 0) is marked; the root and the block 1/0 contain it.
+pub fn ask_marked() -> Asking
+    ensures { λ r. ⌜ askAnswer r ≡ accepted 1 2 ⌝ }
+{
+    let mut store = [0u32; 148];
+    ask_panel(&mut store, 0, 0)
+}
+
+// 01: ask (1, 1) is no, 2 opened.
+pub fn ask_unmarked() -> Asking
+    ensures { λ r. ⌜ askAnswer r ≡ accepted 0 2 ⌝ }
+{
+    let mut store = [0u32; 148];
+    ask_panel(&mut store, 1, 1)
+}
+
+fn count_panel(store: &mut [u32]) -> Counting
+    requires { ⌜ 148 ≤ length (now store) ⌝ }
+    ensures { λ r. ⌜ countAnswer r ≡ accepted 1 1 ⌝ }
+{
+    first_panel(store);
+    register::count(store, 4, 4, 7, 7)
+}
+
+// 01: window 4,4 to 7,7 finds code 60, 1 opened.
+pub fn count_window() -> Counting
+    ensures { λ r. ⌜ countAnswer r ≡ accepted 1 1 ⌝ }
+{
+    let mut store = [0u32; 148];
+    count_panel(&mut store)
+}
+
+fn list_panel(store: &mut [u32], output: &mut [u32]) -> Listing
+    requires { ⌜ 148 ≤ length (now store) ⌝ }
+    ensures { λ r. ⌜ PanelListed (now (output .entry)) (now (output .exit)) (listAnswer r) ⌝ }
+{
+    first_panel(store);
+    register::list(store, 0, 0, 7, 7, output)
+}
+
+// The whole panel, word by word.
+pub fn list_window(output: &mut [u32]) -> Listing
+    ensures { λ r. ⌜ PanelListed (now (output .entry)) (now (output .exit)) (listAnswer r) ⌝ }
+{
+    let mut store = [0u32; 148];
+    list_panel(&mut store, output)
+}
+
+fn save_panel(store: &mut [u32], output: &mut [u8]) -> Saving
+    requires { ⌜ 148 ≤ length (now store) ⌝ }
+    ensures { λ r. ⌜ PanelSaved (now (output .entry)) (now (output .exit)) (saveAnswer r) ⌝ }
+{
+    first_panel(store);
+    register::save(store, output)
+}
+
+// The image, byte by byte.
+pub fn save_image(output: &mut [u8]) -> Saving
+    ensures { λ r. ⌜ PanelSaved (now (output .entry)) (now (output .exit)) (saveAnswer r) ⌝ }
+{
+    let mut store = [0u32; 148];
+    save_panel(&mut store, output)
+}
+
+fn clear_and_list(store: &mut [u32], output: &mut [u32]) -> Listing
+    requires { ⌜ 148 ≤ length (now store) ⌝ }
+    ensures { λ r. ⌜ ClearedListed (now (output .entry)) (now (output .exit)) (listAnswer r) ⌝ }
+{
+    first_panel(store);
+    register::clear(store, 1, 0);
+    register::list(store, 0, 0, 7, 7, output)
+}
+
+// 01: then clear code 1. The block 1/0 is gone.
+pub fn list_cleared(output: &mut [u32]) -> Listing
+    ensures { λ r. ⌜ ClearedListed (now (output .entry)) (now (output .exit)) (listAnswer r) ⌝ }
+{
+    let mut store = [0u32; 148];
+    clear_and_list(&mut store, output)
+}
+
+fn mark_twice(store: &mut [u32]) -> u32
+    requires { ⌜ 148 ≤ length (now store) ⌝ }
+    ensures { λ r. ⌜ r ≡ 5 ⌝ }
+{
+    first_panel(store);
+    refusal_of(register::mark(store, 6, 6))
+}
+
+pub fn mark_marked() -> u32
+    ensures { λ r. ⌜ r ≡ 5 ⌝ }
+{
+    let mut store = [0u32; 148];
+    mark_twice(&mut store)
+}
+
+fn clear_elsewhere(store: &mut [u32]) -> u32
+    requires { ⌜ 148 ≤ length (now store) ⌝ }
+    ensures { λ r. ⌜ r ≡ 7 ⌝ }
+{
+    first_panel(store);
+    refusal_of(register::clear(store, 1, 1))
+}
+
+pub fn clear_unmarked() -> u32
+    ensures { λ r. ⌜ r ≡ 7 ⌝ }
+{
+    let mut store = [0u32; 148];
+    clear_elsewhere(&mut store)
+}

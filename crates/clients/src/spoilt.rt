@@ -1,0 +1,241 @@
+// A damaged store: what each call says of it, and that load mends it.
+ghost use Prim.Native.Nat.{_≤_};
+ghost use mathlib.Core.Path.{_≡_};
+ghost use lib.ListN.{length};
+ghost use Rattle.promises.specs.Answer.{accepted, refused};
+ghost use Rattle.register.specs.Answer.{askAnswer, countAnswer, listAnswer, saveAnswer, checkAnswer};
+ghost use Rattle.clients.specs.Known.{HoldsFirst, firstImage, PanelListed, Overwritten, SpoiltOf9, DamagedThenUnusable};
+use register::Asking;
+use register::Checking;
+use register::Counting;
+use register::Listing;
+use register::Saving;
+use register::refusal_of;
+
+// Something else writes to the store.
+fn overwrite(store: &mut [u32])
+    requires { ⌜ 148 ≤ length (now store) ⌝ }
+    ensures { λ _. ⌜ Overwritten (now (store .entry)) (now (store .exit)) ⌝ }
+{
+    let mut i = 4;
+    while i < 148 {
+        store[i] = 0xFFFFFFFF;
+        i += 1;
+    }
+}
+
+fn make_and_spoil(store: &mut [u32])
+    requires { ⌜ 148 ≤ length (now store) ⌝ }
+    ensures { λ _. ⌜ SpoiltOf9 (now (store .exit)) ⌝ }
+{
+    register::make(store, 3, 3, 9);
+    overwrite(store);
+}
+
+// What two calls in a row were refused with.
+pub struct Numbers {
+    pub first: u32,
+    pub second: u32,
+}
+
+fn mark_twice(store: &mut [u32]) -> Numbers
+    requires { ⌜ 148 ≤ length (now store) ⌝ }
+    ensures { λ r. ⌜ DamagedThenUnusable (r .first) (r .second) ⌝ }
+{
+    make_and_spoil(store);
+    let first = refusal_of(register::mark(store, 1, 2));
+    let second = refusal_of(register::mark(store, 1, 2));
+    Numbers { first, second }
+}
+
+// 01: mark sets word 0 to zero, so later calls give 3.
+pub fn mark_spoilt() -> Numbers
+    ensures { λ r. ⌜ DamagedThenUnusable (r .first) (r .second) ⌝ }
+{
+    let mut store = [0u32; 148];
+    mark_twice(&mut store)
+}
+
+fn clear_twice(store: &mut [u32]) -> Numbers
+    requires { ⌜ 148 ≤ length (now store) ⌝ }
+    ensures { λ r. ⌜ DamagedThenUnusable (r .first) (r .second) ⌝ }
+{
+    make_and_spoil(store);
+    let first = refusal_of(register::clear(store, 1, 2));
+    let second = refusal_of(register::clear(store, 1, 2));
+    Numbers { first, second }
+}
+
+pub fn clear_spoilt() -> Numbers
+    ensures { λ r. ⌜ DamagedThenUnusable (r .first) (r .second) ⌝ }
+{
+    let mut store = [0u32; 148];
+    clear_twice(&mut store)
+}
+
+fn ask_after(store: &mut [u32]) -> Asking
+    requires { ⌜ 148 ≤ length (now store) ⌝ }
+    ensures { λ r. ⌜ askAnswer r ≡ refused 13 ⌝ }
+{
+    make_and_spoil(store);
+    register::ask(store, 1, 2)
+}
+
+pub fn ask_spoilt() -> Asking
+    ensures { λ r. ⌜ askAnswer r ≡ refused 13 ⌝ }
+{
+    let mut store = [0u32; 148];
+    ask_after(&mut store)
+}
+
+fn count_after(store: &mut [u32]) -> Counting
+    requires { ⌜ 148 ≤ length (now store) ⌝ }
+    ensures { λ r. ⌜ countAnswer r ≡ refused 13 ⌝ }
+{
+    make_and_spoil(store);
+    register::count(store, 0, 0, 7, 7)
+}
+
+pub fn count_spoilt() -> Counting
+    ensures { λ r. ⌜ countAnswer r ≡ refused 13 ⌝ }
+{
+    let mut store = [0u32; 148];
+    count_after(&mut store)
+}
+
+fn list_after(store: &mut [u32], output: &mut [u32]) -> Listing
+    requires { ⌜ 148 ≤ length (now store) ⌝ }
+    ensures { λ r. ⌜ listAnswer r ≡ refused 13 ⌝ }
+{
+    make_and_spoil(store);
+    register::list(store, 0, 0, 7, 7, output)
+}
+
+pub fn list_spoilt(output: &mut [u32]) -> Listing
+    ensures { λ r. ⌜ listAnswer r ≡ refused 13 ⌝ }
+{
+    let mut store = [0u32; 148];
+    list_after(&mut store, output)
+}
+
+fn save_after(store: &mut [u32], output: &mut [u8]) -> Saving
+    requires { ⌜ 148 ≤ length (now store) ⌝ }
+    ensures { λ r. ⌜ saveAnswer r ≡ refused 13 ⌝ }
+{
+    make_and_spoil(store);
+    register::save(store, output)
+}
+
+pub fn save_spoilt(output: &mut [u8]) -> Saving
+    ensures { λ r. ⌜ saveAnswer r ≡ refused 13 ⌝ }
+{
+    let mut store = [0u32; 148];
+    save_after(&mut store, output)
+}
+
+fn check_after(store: &mut [u32]) -> Checking
+    requires { ⌜ 148 ≤ length (now store) ⌝ }
+    ensures { λ r. ⌜ checkAnswer r ≡ accepted 0 0 ⌝ }
+{
+    make_and_spoil(store);
+    register::ask(store, 1, 2);
+    register::check(store)
+}
+
+// check says no: were the store sound, ask would not have answered 13.
+pub fn check_spoilt() -> Checking
+    ensures { λ r. ⌜ checkAnswer r ≡ accepted 0 0 ⌝ }
+{
+    let mut store = [0u32; 148];
+    check_after(&mut store)
+}
+
+// The image of the first panel is loaded over the damage.
+fn mend(store: &mut [u32])
+    requires { ⌜ 148 ≤ length (now store) ⌝ }
+    ensures { λ _. ⌜ HoldsFirst (now (store .exit)) ⌝ }
+{
+    make_and_spoil(store);
+    let image = first_image();
+    register::load(store, &image);
+}
+
+// 01: the bytes of the first panel's image.
+fn first_image() -> [u8; 40]
+    ensures { λ r. ⌜ r ≡ firstImage ⌝ }
+{
+    [
+        3,
+        3,
+        6,
+        0,
+        0,
+        0,
+        4,
+        0,
+        0,
+        0,
+        0,
+        0,
+        0,
+        0,
+        0,
+        0,
+        0,
+        0,
+        0,
+        0,
+        0,
+        0,
+        1,
+        0,
+        0,
+        0,
+        2,
+        0,
+        0,
+        0,
+        60,
+        0,
+        0,
+        0,
+        3,
+        1,
+        0,
+        0,
+        0,
+        0,
+    ]
+}
+
+fn list_mended(store: &mut [u32], output: &mut [u32]) -> Listing
+    requires { ⌜ 148 ≤ length (now store) ⌝ }
+    ensures { λ r. ⌜ PanelListed (now (output .entry)) (now (output .exit)) (listAnswer r) ⌝ }
+{
+    mend(store);
+    register::list(store, 0, 0, 7, 7, output)
+}
+
+// A damaged store is mended by load: it lists the first panel.
+pub fn mended(output: &mut [u32]) -> Listing
+    ensures { λ r. ⌜ PanelListed (now (output .entry)) (now (output .exit)) (listAnswer r) ⌝ }
+{
+    let mut store = [0u32; 148];
+    list_mended(&mut store, output)
+}
+
+fn check_mended(store: &mut [u32]) -> Checking
+    requires { ⌜ 148 ≤ length (now store) ⌝ }
+    ensures { λ r. ⌜ checkAnswer r ≡ accepted 1 0 ⌝ }
+{
+    mend(store);
+    register::check(store)
+}
+
+// And check says yes.
+pub fn mended_is_sound() -> Checking
+    ensures { λ r. ⌜ checkAnswer r ≡ accepted 1 0 ⌝ }
+{
+    let mut store = [0u32; 148];
+    check_mended(&mut store)
+}

@@ -1,6 +1,0 @@
-mod FirstDifference
-mod Decides
-mod Bits
-mod BlockCodes
-mod Counts
-mod Holding

@@ -1,9 +1,0 @@
-pub mod Decides
-pub mod FourBytes
-pub mod FirstDifference
-pub mod Code
-pub mod Block
-pub mod Limits
-pub mod Store
-pub mod Count
-pub mod Set

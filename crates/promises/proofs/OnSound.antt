@@ -1,0 +1,96 @@
+-- What each call answers and leaves by equation, on a store that holds this set; and 13 on a spoiled one.
+use Prim.Native.Nat.{ℕ, _≤_, _<_}
+use native.Mathlib.Omega.{arith}
+use mathlib.Core.Path.{_≡_}
+use mathlib.Core.Bool.{true, false}
+use mathlib.Core.List.{List, _++_}
+use lib.ListN.{length, drop}
+use Rattle.morton.specs.Code.{codeOf}
+use Rattle.pktree.specs.PixelSet.{member, added, removed}
+use Rattle.pktree.specs.Tree.{tree}
+use Rattle.pktree.specs.Window.{found, openedByPixel, openedByWindow}
+use Rattle.pktree.specs.Image.{image}
+use Rattle.pktree.proofs.Absurd.{zero-is-not-one}
+use Rattle.measures.specs.Sizes.{panelOf, sizesOf, UsableStore}
+use Rattle.store.specs.Sound.{Holds}
+use Rattle.refusals.specs.Judged.{HasPixelOn, CornersOn}
+use Rattle.promises.specs.Answer.{Answer, accepted, refused, yesNo}
+use Rattle.promises.specs.Effect.{effect, Returns, InOrder}
+use Rattle.promises.specs.Walk.{Spoiled}
+use Rattle.promises.specs.Calls.{MarkMeets, ClearMeets, AskMeets, windowGiven, CountMeets, ListMeets, SaveMeets}
+use Rattle.promises.proofs.Answers.{refusal-of, first-of, second-of}
+use Rattle.promises.proofs.Holding.{Holding, now-holding}
+use Rattle.promises.proofs.Ladder.{where-holds, where-fails}
+
+module _ {before set : List ℕ} (holds : Holds before set) {after : List ℕ} {x y : ℕ} (on : HasPixelOn before x y) {a : Answer} where
+  module _ (meets : MarkMeets before after x y a) where
+    pub mark-already : member set (codeOf x y) ≡ true → Returns (refused 5) (effect a before after)
+    mark-already m = where-fails (where-holds (where-holds meets (holds .sound .usable)) on .sound set holds) (λ f. zero-is-not-one (cc (m, f)))
+
+    pub mark-full : member set (codeOf x y) ≡ false → sizesOf before .most ≤ length set → Returns (refused 6) (effect a before after)
+    mark-full m full = where-fails (where-holds (where-holds (where-holds meets (holds .sound .usable)) on .sound set holds) m) (λ room. omega (arith, room, full))
+
+    pub mark-adds : member set (codeOf x y) ≡ false → length set < sizesOf before .most → Holding (sizesOf before) (added (codeOf x y) set) a after
+    mark-adds m room = now-holding (where-holds (where-holds (where-holds (where-holds meets (holds .sound .usable)) on .sound set holds) m) room)
+
+  module _ (meets : ClearMeets before after x y a) where
+    pub clear-unmarked : member set (codeOf x y) ≡ false → Returns (refused 7) (effect a before after)
+    clear-unmarked m = where-fails (where-holds (where-holds meets (holds .sound .usable)) on .sound set holds) (λ t. zero-is-not-one (cc (m, t)))
+
+    pub clear-removes : member set (codeOf x y) ≡ true → Holding (sizesOf before) (removed (codeOf x y) set) a after
+    clear-removes m = now-holding (where-holds (where-holds (where-holds meets (holds .sound .usable)) on .sound set holds) m)
+
+module _ {words set : List ℕ} (holds : Holds words set) {a : Answer} where
+  pub ask-answers : {x y : ℕ} → AskMeets words x y a → HasPixelOn words x y
+      → a ≡ accepted (yesNo (member set (codeOf x y))) (openedByPixel (codeOf x y) (tree (panelOf (sizesOf words)) (member set)))
+  ask-answers m on = where-holds (where-holds m (holds .sound .usable)) on .sound set holds .is
+
+  module _ {x0 y0 x1 y1 : ℕ} (on : CornersOn words x0 y0 x1 y1) (ordered : InOrder x0 y0 x1 y1) where
+    pub count-answers : CountMeets words x0 y0 x1 y1 a
+        → a ≡ accepted (length (found (windowGiven x0 y0 x1 y1) set)) (openedByWindow (windowGiven x0 y0 x1 y1) (tree (panelOf (sizesOf words)) (member set)))
+    count-answers m = where-holds (where-holds (where-holds m (holds .sound .usable)) on) ordered .sound set holds .is
+
+    module _ {before after : List ℕ} (meets : ListMeets words x0 y0 x1 y1 before after a) where
+      pub list-writes : length (found (windowGiven x0 y0 x1 y1) set) ≤ length before
+          → (a ≡ accepted (length (found (windowGiven x0 y0 x1 y1) set)) (openedByWindow (windowGiven x0 y0 x1 y1) (tree (panelOf (sizesOf words)) (member set))))
+          × (after ≡ found (windowGiven x0 y0 x1 y1) set ++ drop (length (found (windowGiven x0 y0 x1 y1) set)) before)
+      list-writes room = let w = where-holds (where-holds (where-holds (where-holds meets (holds .sound .usable)) on) ordered .sound set holds) room in (w .is, w .wrote)
+
+      pub list-short : length before < length (found (windowGiven x0 y0 x1 y1) set)
+          → (a .refusal ≡ 9) × (a .first ≡ length (found (windowGiven x0 y0 x1 y1) set)) × (a .second ≡ 0) × (after ≡ before)
+      list-short lacks =
+          let r = where-fails (where-holds (where-holds (where-holds meets (holds .sound .usable)) on) ordered .sound set holds) (λ room. omega (arith, room, lacks)) in
+          (refusal-of (r .is), first-of (r .is), second-of (r .is), r .same)
+
+  module _ {before after : List ℕ} (meets : SaveMeets words before after a) where
+    pub save-writes : length (image (panelOf (sizesOf words)) set) ≤ length before
+        → (a ≡ accepted (length (image (panelOf (sizesOf words)) set)) 0) × (after ≡ image (panelOf (sizesOf words)) set ++ drop (length (image (panelOf (sizesOf words)) set)) before)
+    save-writes room = let w = where-holds (where-holds meets (holds .sound .usable) .sound set holds) room in (w .is, w .wrote)
+
+    pub save-short : length before < length (image (panelOf (sizesOf words)) set)
+        → (a .refusal ≡ 9) × (a .first ≡ length (image (panelOf (sizesOf words)) set)) × (a .second ≡ 0) × (after ≡ before)
+    save-short lacks =
+        let r = where-fails (where-holds meets (holds .sound .usable) .sound set holds) (λ room. omega (arith, room, lacks)) in
+        (refusal-of (r .is), first-of (r .is), second-of (r .is), r .same)
+
+-- 13 on a spoiled store, by each of the six calls that walk
+module _ {words : List ℕ} (usable : UsableStore words) (spoiled : Spoiled words) {a : Answer} where
+  module _ {x y : ℕ} (on : HasPixelOn words x y) where
+    pub mark-spoiled : {after : List ℕ} → MarkMeets words after x y a → a ≡ refused 13
+    mark-spoiled m = where-holds (where-holds m usable) on .spoiled spoiled
+
+    pub clear-spoiled : {after : List ℕ} → ClearMeets words after x y a → a ≡ refused 13
+    clear-spoiled m = where-holds (where-holds m usable) on .spoiled spoiled
+
+    pub ask-spoiled : AskMeets words x y a → a ≡ refused 13
+    ask-spoiled m = where-holds (where-holds m usable) on .spoiled spoiled
+
+  module _ {x0 y0 x1 y1 : ℕ} (on : CornersOn words x0 y0 x1 y1) (ordered : InOrder x0 y0 x1 y1) where
+    pub count-spoiled : CountMeets words x0 y0 x1 y1 a → a ≡ refused 13
+    count-spoiled m = where-holds (where-holds (where-holds m usable) on) ordered .spoiled spoiled
+
+    pub list-spoiled : {before after : List ℕ} → ListMeets words x0 y0 x1 y1 before after a → a ≡ refused 13
+    list-spoiled m = where-holds (where-holds (where-holds m usable) on) ordered .spoiled spoiled
+
+  pub save-spoiled : {before after : List ℕ} → SaveMeets words before after a → a ≡ refused 13
+  save-spoiled m = where-holds m usable .spoiled spoiled

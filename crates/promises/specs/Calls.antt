@@ -1,0 +1,118 @@
+-- 01 "Calls": what each of the nine calls promises. A line `P else a then rest` is a check: where P fails the call returns a and changes nothing.
+use Prim.Native.Nat.{ℕ, _≤_, _<_}
+use mathlib.Core.Path.{_≡_}
+use mathlib.Core.Logic.{_⊎_}
+use mathlib.Core.Bool.{false, true}
+use mathlib.Core.List.{List, []}
+use lib.ListN.{length}
+use Rattle.morton.specs.Code.{codeOf}
+use Rattle.pktree.specs.PixelSet.{member, added, removed}
+use Rattle.pktree.specs.Tree.{tree}
+use Rattle.pktree.specs.Window.{openedByPixel, Window, found, openedByWindow}
+use Rattle.pktree.specs.Image.{image}
+use Rattle.measures.specs.declared.sizes.Sizes.{Sizes}
+use Rattle.measures.specs.Sizes.{ValidSizes, storeWords, sizesOf, UsableStore, panelOf, slotCount}
+use Rattle.image.specs.Judged.{WellFormed, FitsRegister, ImageOfSome}
+use Rattle.loading.specs.Loaded.{HasImage, panelIn, mostIn}
+use Rattle.saving.specs.Saving.{mostBytes}
+use Rattle.promises.specs.Answer.{Answer, refused, accepted, yesNo}
+use Rattle.promises.specs.Effect.{effect, _else_then_, Effect, Returns, Unchanged, OfPixel, OfWindow}
+use Rattle.promises.specs.Walk.{Walks, Accepts}
+use Rattle.promises.specs.Change.{Becomes, Done, Disabled}
+use Rattle.promises.specs.Output.{SameLength, WrittenOrShort, WritesOrShort}
+use Rattle.store.specs.Sound.{IsSound}
+
+-- make (store, m, k, N): an empty, sound register
+abbrev pub asked : ℕ → ℕ → ℕ → Sizes
+asked m k most = record { order = m; k = k; most = most }
+
+abbrev pub MakeMeets : List ℕ → List ℕ → ℕ → ℕ → ℕ → Answer → Type 0
+MakeMeets before after m k most given =
+    (ValidSizes (asked m k most) else refused 1 then
+    storeWords (asked m k most) ≤ length before else refused 2 then
+    Becomes (asked m k most) [])
+    (effect given before after)
+
+-- mark (store, x, y): done, 5, 6 or 13; on a sound store 5 where the pixel is marked, else 6 where N pixels are held, else the pixel is added
+abbrev pub Marks : List ℕ → ℕ → Effect → Type 0
+Marks words code =
+    Walks words (λ e. Done (sizesOf words) e ⊎ Returns (refused 5) e ⊎ Returns (refused 6) e) (Disabled (sizesOf words))
+    (λ set. member set code ≡ false else refused 5 then length set < sizesOf words .most else refused 6 then Becomes (sizesOf words) (added code set))
+
+abbrev pub MarkMeets : List ℕ → List ℕ → ℕ → ℕ → Answer → Type 0
+MarkMeets before after x y given = OfPixel before x y (Marks before (codeOf x y)) (effect given before after)
+
+-- clear (store, x, y): done, 7 or 13; on a sound store 7 where the pixel is not marked, else it is removed
+abbrev pub Clears : List ℕ → ℕ → Effect → Type 0
+Clears words code =
+    Walks words (λ e. Done (sizesOf words) e ⊎ Returns (refused 7) e) (Disabled (sizesOf words))
+    (λ set. member set code ≡ true else refused 7 then Becomes (sizesOf words) (removed code set))
+
+abbrev pub ClearMeets : List ℕ → List ℕ → ℕ → ℕ → Answer → Type 0
+ClearMeets before after x y given = OfPixel before x y (Clears before (codeOf x y)) (effect given before after)
+
+-- load (store, image bytes): a register of the same sizes that holds the image's set, of at most N pixels, also where the store was damaged
+pub record Loads (bytes : List ℕ) (e : Effect) : Type 0 where
+  pub set : List ℕ
+  pub has-image : HasImage (panelIn (e .before)) (mostIn (e .before)) bytes set
+  pub loaded : Becomes (sizesOf (e .before)) set e
+
+abbrev pub LoadMeets : List ℕ → List ℕ → List ℕ → Answer → Type 0
+LoadMeets before after bytes given =
+    (UsableStore before else refused 3 then
+    WellFormed bytes else refused 10 then
+    FitsRegister (panelIn before) (mostIn before) bytes else refused 11 then
+    ImageOfSome (panelIn before) bytes else refused 12 then
+    Loads bytes)
+    (effect given before after)
+
+-- ask, count and check are lent the store for reading only, so no word of it changes
+
+-- ask (store, x, y): never more blocks opened than the order m; on a sound store marked or not, and the instantiated blocks that contain the pixel
+abbrev pub Asks : List ℕ → ℕ → Effect → Type 0
+Asks words code =
+    Walks words (Accepts 1 (sizesOf words .order)) Unchanged
+    (λ set. Returns (accepted (yesNo (member set code)) (openedByPixel code (tree (panelOf (sizesOf words)) (member set)))))
+
+abbrev pub AskMeets : List ℕ → ℕ → ℕ → Answer → Type 0
+AskMeets words x y given = OfPixel words x y (Asks words (codeOf x y)) (effect given words words)
+
+abbrev pub windowGiven : ℕ → ℕ → ℕ → ℕ → Window
+windowGiven x0 y0 x1 y1 = record { x0 = x0; y0 = y0; x1 = x1; y1 = y1 }
+
+-- 01's S
+abbrev pub slotsIn : List ℕ → ℕ
+slotsIn words = slotCount (sizesOf words .k) (sizesOf words .most)
+
+-- on a sound store: the marked pixels in the window, and the instantiated blocks that share a pixel with it
+abbrev pub foundAndOpened : List ℕ → Window → List ℕ → Answer
+foundAndOpened words window set = accepted (length (found window set)) (openedByWindow window (tree (panelOf (sizesOf words)) (member set)))
+
+-- count (store, x0, y0, x1, y1): never more than N pixels found, nor more than S blocks opened
+abbrev pub Counts : List ℕ → Window → Effect → Type 0
+Counts words window = Walks words (Accepts (sizesOf words .most) (slotsIn words)) Unchanged (λ set. Returns (foundAndOpened words window set))
+
+abbrev pub CountMeets : List ℕ → ℕ → ℕ → ℕ → ℕ → Answer → Type 0
+CountMeets words x0 y0 x1 y1 given = OfWindow words x0 y0 x1 y1 (Counts words (windowGiven x0 y0 x1 y1)) (effect given words words)
+
+-- list: as count, with each found code written once, in rising order, to the first words of the output
+abbrev pub Lists : List ℕ → Window → Effect → Type 0
+Lists words window =
+    Walks words (WrittenOrShort (sizesOf words .most) (slotsIn words)) SameLength (λ set. WritesOrShort (foundAndOpened words window set) (found window set))
+
+abbrev pub ListMeets : List ℕ → ℕ → ℕ → ℕ → ℕ → List ℕ → List ℕ → Answer → Type 0
+ListMeets words x0 y0 x1 y1 before after given = OfWindow words x0 y0 x1 y1 (Lists words (windowGiven x0 y0 x1 y1)) (effect given before after)
+
+-- save (store, output bytes): never a longer image than N pixels in S blocks have; on a sound store the set's image, byte for byte, and its length
+abbrev pub imageOf : List ℕ → List ℕ → List ℕ
+imageOf words set = image (panelOf (sizesOf words)) set
+
+abbrev pub Saves : List ℕ → Effect → Type 0
+Saves words = Walks words (WrittenOrShort (mostBytes words) 0) SameLength (λ set. WritesOrShort (accepted (length (imageOf words set)) 0) (imageOf words set))
+
+abbrev pub SaveMeets : List ℕ → List ℕ → List ℕ → Answer → Type 0
+SaveMeets words before after given = (UsableStore words else refused 3 then Saves words) (effect given before after)
+
+-- check (store): yes exactly when sound, else no
+abbrev pub CheckMeets : List ℕ → Answer → Type 0
+CheckMeets words given = (UsableStore words else refused 3 then IsSound words else accepted 0 0 then Returns (accepted 1 0)) (effect given words words)

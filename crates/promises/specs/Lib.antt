@@ -1,0 +1,6 @@
+pub mod Answer
+pub mod Effect
+pub mod Walk
+pub mod Change
+pub mod Output
+pub mod Calls
