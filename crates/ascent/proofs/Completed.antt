@@ -15,8 +15,7 @@ use mathlib.Core.Logic.{_⊎_}
 use Rattle.pktree.specs.Elements.{size, blockAt, empty}
 use Rattle.store.proofs.FreeChains.{occurrences-join}
 use Rattle.descent.specs.Way.{Frame, plug}
-use Rattle.ascent.proofs.Frames.{RootStands, FramesRight, waySlots, FramesStand}
-use Rattle.ascent.proofs.Frames.{RootStands, rootElements, rootSlot, plug-root, whole-right}
+use Rattle.ascent.proofs.Frames.{RootStands, FramesRight, waySlots, FramesStand, rootElements, rootSlot, plug-root, whole-right}
 use Rattle.ascent.proofs.SlotCounts.{plug-slots, shared-moves}
 use Rattle.ascent.proofs.FramesStand.{root-stands}
 

@@ -11,9 +11,7 @@ use Rattle.store.specs.Placed.{Placed, slotsOf}
 use Rattle.store.proofs.Standing.{elementWords, SlotSays, Stands, frame, every-left, every-right}
 use Rattle.store.proofs.PlacedJoin.{words-join, stands-join}
 use Rattle.descent.specs.Way.{Frame}
-use Rattle.ascent.proofs.Frames.{FramesRight, waySlots, FramesStand}
-use Rattle.ascent.proofs.Frames.{RootStands}
-use Rattle.ascent.proofs.Frames.{rootElements}
+use Rattle.ascent.proofs.Frames.{FramesRight, waySlots, FramesStand, RootStands, rootElements}
 
 -- a slot that names a block says nothing of what is in it
 pub says-any : (part : List ℕ) (level code s i d : ℕ) (a x y b : Placed) → SlotSays part level code (a ⧺ blockAt s i d x b) → SlotSays part level code (a ⧺ blockAt s i d y b)

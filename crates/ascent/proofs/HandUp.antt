@@ -21,9 +21,8 @@ use Rattle.store.proofs.Standing.{Stands}
 use Rattle.store.proofs.PlacedJoin.{slots-join, stands-join}
 use Rattle.store.proofs.FreeChains.{occurrences-join}
 use Rattle.descent.specs.Way.{Frame}
-use Rattle.ascent.proofs.Frames.{FrameRight, waySlots, FramesStand}
+use Rattle.ascent.proofs.Frames.{FrameRight, waySlots, FramesStand, frame-holds, plug-pixels}
 use Rattle.ascent.proofs.Pending.{Setting, widthIn, slotsIn, Around, Pending}
-use Rattle.ascent.proofs.Frames.{frame-holds, plug-pixels}
 use Rattle.ascent.proofs.Around.{holds-x}
 use Rattle.ascent.proofs.SlotCounts.{shared-moves}
 

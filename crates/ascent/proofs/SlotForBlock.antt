@@ -18,9 +18,8 @@ use Rattle.store.proofs.PlacedJoin.{slots-are-blocks}
 use Rattle.store.proofs.SoundView.{slots-suffice}
 use Rattle.store.proofs.FreeChains.{occurrences-same, occurrences-other, occurrences-join}
 use Rattle.descent.specs.Way.{Frame, plug}
-use Rattle.ascent.proofs.Frames.{waySlots}
+use Rattle.ascent.proofs.Frames.{waySlots, rootElements, rootSlot, plug-root, plug-pixels, whole-right}
 use Rattle.ascent.proofs.Pending.{Setting, slotsIn, Around}
-use Rattle.ascent.proofs.Frames.{rootElements, rootSlot, plug-root, plug-pixels, whole-right}
 use Rattle.ascent.proofs.Around.{holds-x}
 use Rattle.ascent.proofs.SlotCounts.{plug-slots, shared-moves}
 

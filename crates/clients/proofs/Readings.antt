@@ -13,8 +13,8 @@ use Rattle.pktree.specs.Window.{someFrom, found, openedByPixel, openedByWindow}
 use Rattle.pktree.specs.Image.{image}
 use Rattle.measures.specs.declared.sizes.Sizes.{Sizes}
 use Rattle.measures.specs.Sizes.{panelOf, sizesOf}
-use Rattle.refusals.specs.Judged.{HasPixelOn, CornersOn}
-use Rattle.loading.specs.Loaded.{HasImage}
+use Rattle.promises.specs.Effect.{HasPixelOn, CornersOn}
+use Rattle.image.specs.Held.{HasImage}
 use Rattle.promises.specs.Answer.{Answer, accepted, yesNo}
 use Rattle.promises.specs.Calls.{asked, MarkMeets, ClearMeets, AskMeets, windowGiven, CountMeets, ListMeets, SaveMeets, LoadMeets, CheckMeets}
 use Rattle.promises.proofs.Answers.{refusal-of}

@@ -10,9 +10,8 @@ use Rattle.pktree.specs.Panel.{HasPixel}
 use Rattle.measures.specs.declared.sizes.Sizes.{Sizes}
 use Rattle.measures.specs.Sizes.{panelOf, sizesOf, storeWords, UsableStore}
 use Rattle.measures.proofs.Usable.{sizes-kept, usable-kept}
-use Rattle.refusals.specs.Judged.{HasPixelOn, CornersOn}
+use Rattle.promises.specs.Effect.{HasPixelOn, CornersOn, passed, stopped}
 use Rattle.promises.specs.Answer.{Answer, accepted, refused}
-use Rattle.promises.specs.Effect.{passed, stopped}
 use Rattle.promises.specs.Calls.{asked, MakeMeets, MarkMeets, ClearMeets, AskMeets, CountMeets, ListMeets, SaveMeets, CheckMeets}
 use Rattle.promises.proofs.Answers.{refusal-of}
 use Rattle.promises.proofs.Ladder.{number-is}

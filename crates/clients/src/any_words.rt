@@ -4,19 +4,19 @@ ghost use mathlib.Core.Path.{_≡_};
 ghost use lib.ListN.{length};
 ghost use mathlib.Core.Logic.{_↔_};
 ghost use Rattle.measures.specs.Sizes.{sizesOf, UsableStore};
-ghost use Rattle.saving.specs.Saving.{mostBytes};
+ghost use Rattle.image.specs.Held.{mostBytes};
 ghost use Rattle.promises.specs.Effect.{effect};
 ghost use Rattle.promises.specs.Calls.{asked, slotsIn};
 ghost use Rattle.promises.proofs.Exactly.{MakeRefusals, PixelRefusals, WindowRefusals, LoadRefusals, CheckAnswers};
 ghost use Rattle.promises.proofs.AnyWords.{Leaves, Bounded, OutputLeft};
-ghost use Rattle.register.specs.Answer.{answer, askAnswer, countAnswer, listAnswer, saveAnswer, checkAnswer};
+ghost use Rattle.answers.specs.Answer.{answer, askAnswer, countAnswer, listAnswer, saveAnswer, checkAnswer};
 ghost use Rattle.clients.specs.Known.{OffEveryPanel, BytesNeeded, FrontSaved, SavedWhole};
-use register::Asking;
-use register::Checking;
-use register::Counting;
-use register::Listing;
-use register::Outcome;
-use register::Saving;
+use answers::Asking;
+use answers::Checking;
+use answers::Counting;
+use answers::Listing;
+use answers::Outcome;
+use answers::Saving;
 
 pub fn make(store: &mut [u32], m: u32, k: u32, most: u32) -> Outcome
     ensures { λ r. ⌜ MakeRefusals (now (store .entry)) m k most (answer r) × Leaves (asked m k most) (effect (answer r) (now (store .entry)) (now (store .exit))) ⌝ }
@@ -76,7 +76,7 @@ pub fn check(store: &[u32]) -> Checking
 pub fn mark_off_panel(store: &mut [u32]) -> u32
     ensures { λ r. ⌜ OffEveryPanel (now (store .entry)) (now (store .exit)) r ⌝ }
 {
-    register::refusal_of(register::mark(store, 65536, 0))
+    answers::refusal_of(register::mark(store, 65536, 0))
 }
 
 // The length that save returns, or needs.

@@ -2,13 +2,13 @@ ghost use Prim.Native.Nat.{_≤_};
 ghost use mathlib.Core.Path.{_≡_};
 ghost use lib.ListN.{length};
 ghost use Rattle.promises.specs.Answer.{accepted};
-ghost use Rattle.register.specs.Answer.{askAnswer, countAnswer, listAnswer, saveAnswer};
+ghost use Rattle.answers.specs.Answer.{askAnswer, countAnswer, listAnswer, saveAnswer};
 ghost use Rattle.clients.specs.Known.{firstSet, HoldsOf9, PanelAsked, PanelListed, PanelSaved, ClearedListed};
-use register::Asking;
-use register::Counting;
-use register::Listing;
-use register::Saving;
-use register::refusal_of;
+use answers::Asking;
+use answers::Counting;
+use answers::Listing;
+use answers::Saving;
+use answers::refusal_of;
 
 // 01's first sample panel, marked pixel by pixel.
 fn first_panel(store: &mut [u32])

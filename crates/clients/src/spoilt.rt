@@ -3,14 +3,14 @@ ghost use Prim.Native.Nat.{_≤_};
 ghost use mathlib.Core.Path.{_≡_};
 ghost use lib.ListN.{length};
 ghost use Rattle.promises.specs.Answer.{accepted, refused};
-ghost use Rattle.register.specs.Answer.{askAnswer, countAnswer, listAnswer, saveAnswer, checkAnswer};
+ghost use Rattle.answers.specs.Answer.{askAnswer, countAnswer, listAnswer, saveAnswer, checkAnswer};
 ghost use Rattle.clients.specs.Known.{HoldsFirst, firstImage, PanelListed, Overwritten, SpoiltOf9, DamagedThenUnusable};
-use register::Asking;
-use register::Checking;
-use register::Counting;
-use register::Listing;
-use register::Saving;
-use register::refusal_of;
+use answers::Asking;
+use answers::Checking;
+use answers::Counting;
+use answers::Listing;
+use answers::Saving;
+use answers::refusal_of;
 
 // Something else writes to the store.
 fn overwrite(store: &mut [u32])
@@ -164,48 +164,17 @@ fn mend(store: &mut [u32])
 fn first_image() -> [u8; 40]
     ensures { λ r. ⌜ r ≡ firstImage ⌝ }
 {
-    [
-        3,
-        3,
-        6,
-        0,
-        0,
-        0,
-        4,
-        0,
-        0,
-        0,
-        0,
-        0,
-        0,
-        0,
-        0,
-        0,
-        0,
-        0,
-        0,
-        0,
-        0,
-        0,
-        1,
-        0,
-        0,
-        0,
-        2,
-        0,
-        0,
-        0,
-        60,
-        0,
-        0,
-        0,
-        3,
-        1,
-        0,
-        0,
-        0,
-        0,
-    ]
+    let mut image = [0u8; 40];
+    image[0] = 3;
+    image[1] = 3;
+    image[2] = 6;
+    image[6] = 4;
+    image[22] = 1;
+    image[26] = 2;
+    image[30] = 60;
+    image[34] = 3;
+    image[35] = 1;
+    image
 }
 
 fn list_mended(store: &mut [u32], output: &mut [u32]) -> Listing

@@ -22,9 +22,8 @@ use Rattle.store.proofs.OpenedSlot as opened
 use Rattle.store.proofs.SoundView.{sound-view}
 use Rattle.store.proofs.BlockView.{BlockView, ChildView, elements-lie, child-view}
 use Rattle.descent.specs.Way.{Frame, plug, pathLength}
-use Rattle.descent.specs.Located.{LookedHere, InnerBlock}
+use Rattle.descent.specs.Located.{LookedHere, InnerBlock, CanEnter, PathNames, LocateMeets}
 use Rattle.descent.specs.declared.Located.{Located}
-use Rattle.descent.specs.Located.{CanEnter, PathNames, LocateMeets}
 use Rattle.measures.proofs.Usable.{slot-long}
 use Rattle.descent.proofs.Looking.{EntersBlock, looked-here, looked-inner}
 use Rattle.descent.proofs.Ways.{seen-on-way, names-more}

@@ -21,8 +21,7 @@ use Rattle.store.specs.declared.elements.Element.{Element}
 use Rattle.store.specs.declared.elements.Element.the-variants.{Pixel, Block}
 use Rattle.store.specs.Placed.{Placed}
 use Rattle.store.proofs.BlockView.{SplitAt, at-pixel, at-block, split-at, element-pixel, element-block, BlockView, ChildView, child-view}
-use Rattle.descent.specs.Located.{EndsBefore, OwnPixel, BetweenElements, LookedHere, InnerBlock}
-use Rattle.descent.specs.Located.{PlaceIn}
+use Rattle.descent.specs.Located.{EndsBefore, OwnPixel, BetweenElements, LookedHere, InnerBlock, PlaceIn}
 use Rattle.descent.proofs.Cutting.{arranged-parts}
 
 abbrev elementCode : Element → ℕ

@@ -4,9 +4,8 @@ ghost use mathlib.Core.Bool.{true};
 ghost use lib.ListN.{length};
 ghost use Rattle.measures.specs.Slot.{elementIndex};
 ghost use Rattle.measures.specs.Layout.{LayoutFits, mostElements};
-ghost use Rattle.descent.specs.Located.{Looked};
+ghost use Rattle.descent.specs.Located.{Looked, CanEnter, FoundAt, LocateMeets};
 ghost use Rattle.descent.specs.Way.{pathLength};
-ghost use Rattle.descent.specs.Located.{CanEnter, FoundAt, LocateMeets};
 use measures::sizes::Layout;
 use measures::slots::SLOT_HEAD;
 use measures::slots::slot_part;
@@ -45,12 +44,7 @@ fn look(part: &[u32], count: usize, code: u32) -> Ahead
         return between;
     }
     let last = place - 1;
-    let Element::Block {
-        slot,
-        level,
-        code: inner,
-    } = element_at(part, last)
-    else {
+    let Element::Block(slot, level, inner) = element_at(part, last) else {
         if part[SLOT_HEAD + 2 * last] == code {
             return Ahead::Here {
                 place: last,

@@ -3,15 +3,15 @@ use Prim.Native.Nat.{ℕ}
 use mathlib.Core.Path.{refl}
 use mathlib.Core.List.{List, [], _∷_, _++_}
 use denote.Ref.{RefT}
-use Rattle.register.specs.declared.Outcome.{Outcome}
-use Rattle.register.specs.declared.Asking.{Asking}
-use Rattle.register.specs.declared.Counting.{Counting}
-use Rattle.register.specs.declared.Listing.{Listing}
-use Rattle.register.specs.declared.Saving.{Saving}
-use Rattle.register.specs.declared.Checking.{Checking}
-use Rattle.register.specs.Answer.{answer, askAnswer, countAnswer, listAnswer, saveAnswer, checkAnswer}
+use Rattle.answers.specs.declared.Outcome.{Outcome}
+use Rattle.answers.specs.declared.Asking.{Asking}
+use Rattle.answers.specs.declared.Counting.{Counting}
+use Rattle.answers.specs.declared.Listing.{Listing}
+use Rattle.answers.specs.declared.Saving.{Saving}
+use Rattle.answers.specs.declared.Checking.{Checking}
+use Rattle.answers.specs.Answer.{answer, askAnswer, countAnswer, listAnswer, saveAnswer, checkAnswer}
 use Rattle.promises.specs.Calls.{MarkMeets, ClearMeets, AskMeets, CountMeets, ListMeets, SaveMeets, LoadMeets, CheckMeets}
-use Rattle.history.specs.Survivors.{Call, mark, clear, ask, count, list, save, load, check}
+use Rattle.promises.specs.Survivors.{Call, mark, clear, ask, count, list, save, load, check}
 use Rattle.history.specs.Run as steps
 use Rattle.history.specs.Run.{Step, SaveRun, Run, done, then}
 

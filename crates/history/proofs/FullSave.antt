@@ -14,7 +14,7 @@ use Rattle.measures.specs.Sizes.{panelOf, sizesOf}
 use Rattle.store.specs.Sound.{Holds}
 use Rattle.store.proofs.SoundView.{sound-view}
 use Rattle.walks.proofs.RootWalk.{heldTree}
-use Rattle.saving.specs.Saving.{mostBytes}
+use Rattle.image.specs.Held.{mostBytes}
 use Rattle.saving.proofs.SavedImage.{tree-of-held, entries-counted}
 use Rattle.promises.specs.Answer.{accepted}
 use Rattle.promises.specs.Effect.{passed}

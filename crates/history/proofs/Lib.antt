@@ -1,4 +1,3 @@
-pub mod ImageTests
 pub mod Steps
 pub mod Runs
 pub mod FullSave

@@ -3,9 +3,10 @@ use Prim.Native.Nat.{ℕ}
 use mathlib.Core.List.{List, []}
 use Rattle.measures.specs.declared.sizes.Sizes.{Sizes}
 use Rattle.promises.proofs.Exactly.{accepted-makes}
-use Rattle.history.specs.Survivors.{Call, next, surviving, survivors}
+use Rattle.promises.specs.Survivors.{Call, next, surviving, survivors}
 use Rattle.history.specs.Run.{Fresh, by-make, Run, done, then, History}
-use Rattle.history.proofs.Steps.{InStep, step-keeps}
+use Rattle.promises.proofs.Keeping.{InStep}
+use Rattle.history.proofs.Steps.{step-keeps}
 
 pub run-keeps : (sizes : Sizes) (set : List ℕ) {calls : List Call} {before after : List ℕ} → Run calls before after → InStep sizes set before
     → InStep sizes (surviving sizes set calls) after

@@ -18,20 +18,20 @@ use Rattle.pktree.proofs.Images.{image-determines-set}
 use Rattle.pktree.proofs.Unlabelled.{pixels-unlabelled}
 use Rattle.measures.specs.declared.sizes.Sizes.{Sizes}
 use Rattle.measures.specs.Sizes.{panelOf, sizesOf, ValidSizes}
-use Rattle.register.specs.declared.Saving.{Saving}
-use Rattle.register.specs.declared.Saving.the-variants.{Saved}
+use Rattle.answers.specs.declared.Saving.{Saving}
+use Rattle.answers.specs.declared.Saving.the-variants.{Saved}
 use Rattle.promises.specs.Answer.{Answer, accepted}
-use Rattle.register.specs.Answer.{saveAnswer}
+use Rattle.answers.specs.Answer.{saveAnswer}
 use Rattle.promises.specs.Effect.{effect}
 use Rattle.promises.specs.Output.{WritesOrShort}
 use Rattle.promises.specs.Calls.{SaveMeets}
 use Rattle.promises.proofs.Ladder.{where-holds, accepted-passed}
-use Rattle.history.specs.Survivors.{Call, survivors}
+use Rattle.promises.specs.Survivors.{Call, survivors}
 use Rattle.history.specs.Run.{SaveRun, by-save, History}
 use Rattle.history.specs.Claim.{fullImage, HoldsSurvivors, EveryTwoLists}
 use Rattle.history.proofs.CallSteps.{lent}
 use Rattle.history.proofs.FullSave.{full-save}
-use Rattle.history.proofs.Steps.{InStep}
+use Rattle.promises.proofs.Keeping.{InStep}
 use Rattle.history.proofs.Runs.{history-keeps}
 
 module _ (sizes : Sizes) (set words : List ℕ) (h : InStep sizes set words) where

@@ -6,11 +6,11 @@ use mathlib.Core.List.{List, [], _∷_}
 use lib.ListN.{length}
 use Rattle.morton.specs.Code.{interleave}
 use Rattle.measures.specs.Sizes.{ValidSizes}
-use Rattle.register.specs.declared.Outcome.{Outcome}
-use Rattle.register.specs.Answer.{answer}
+use Rattle.answers.specs.declared.Outcome.{Outcome}
+use Rattle.answers.specs.Answer.{answer}
 use Rattle.promises.specs.Calls.{asked, MakeMeets}
 use Rattle.promises.proofs.Exactly.{make-refusals}
-use Rattle.history.specs.Survivors.{Call, survivors}
+use Rattle.promises.specs.Survivors.{Call, survivors}
 use Rattle.history.specs.Run.{by-make, Run, History}
 use Rattle.history.specs.Script.{callsTo, callsOf}
 use Rattle.history.specs.Whole.{RunMeets, sampleCalls, SampleRan}

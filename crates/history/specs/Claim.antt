@@ -14,10 +14,10 @@ use Rattle.measures.specs.Sizes.{panelOf}
 use Rattle.store.specs.Placed.{Placed}
 use Rattle.store.specs.Reading.{treeOf}
 use Rattle.store.specs.Sound.{Sound}
-use Rattle.register.specs.declared.Saving.{Saving}
-use Rattle.register.specs.declared.Saving.the-variants.{Saved}
-use Rattle.register.specs.Answer.{saveAnswer}
-use Rattle.history.specs.Survivors.{Call, survivors}
+use Rattle.answers.specs.declared.Saving.{Saving}
+use Rattle.answers.specs.declared.Saving.the-variants.{Saved}
+use Rattle.answers.specs.Answer.{saveAnswer}
+use Rattle.promises.specs.Survivors.{Call, survivors}
 use Rattle.history.specs.Run.{SaveRun, History}
 
 -- 01: the full image, the first bytes of the output, as many as the length that save returns

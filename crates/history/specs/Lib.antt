@@ -1,5 +1,3 @@
-pub mod ImageTest
-pub mod Survivors
 pub mod Run
 pub mod Claim
 pub mod Script

@@ -6,13 +6,13 @@ use mathlib.Core.List.{List, [], _∷_}
 use contract.Lifetimes.{Lfts}
 use denote.Ref.{RefT, now, at-last}
 use Rattle.measures.specs.declared.sizes.Sizes.{Sizes}
-use Rattle.register.specs.declared.Outcome.{Outcome}
-use Rattle.register.specs.declared.Asking.{Asking}
-use Rattle.register.specs.declared.Counting.{Counting}
-use Rattle.register.specs.declared.Listing.{Listing}
-use Rattle.register.specs.declared.Saving.{Saving}
-use Rattle.register.specs.declared.Checking.{Checking}
-use Rattle.register.specs.Answer.{answer}
+use Rattle.answers.specs.declared.Outcome.{Outcome}
+use Rattle.answers.specs.declared.Asking.{Asking}
+use Rattle.answers.specs.declared.Counting.{Counting}
+use Rattle.answers.specs.declared.Listing.{Listing}
+use Rattle.answers.specs.declared.Saving.{Saving}
+use Rattle.answers.specs.declared.Checking.{Checking}
+use Rattle.answers.specs.Answer.{answer}
 use Rattle.register.proofs.make.Reads as make-reads
 use Rattle.register.proofs.mark.Reads as mark-reads
 use Rattle.register.proofs.clear.Reads as clear-reads
@@ -22,7 +22,7 @@ use Rattle.register.proofs.list.Reads as list-reads
 use Rattle.register.proofs.save.Reads as save-reads
 use Rattle.register.proofs.load.Reads as load-reads
 use Rattle.register.proofs.check.Reads as check-reads
-use Rattle.history.specs.Survivors.{Call, mark, clear, ask, count, list, save, load, check}
+use Rattle.promises.specs.Survivors.{Call, mark, clear, ask, count, list, save, load, check}
 
 -- a save from these words into this output
 pub data SaveRun (words output : List ℕ) (r : Saving) (written : List ℕ) : Type 0 where

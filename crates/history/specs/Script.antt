@@ -5,7 +5,7 @@ use mathlib.Core.List.{List, [], _∷_, _++_}
 use lib.Dec.{eqb}
 use lib.ListN.{length, getD, take, drop, replicate}
 use Rattle.history.specs.declared.Encoded.{Encoded}
-use Rattle.history.specs.Survivors.{Call, mark, clear, ask, count, list, save, load, check}
+use Rattle.promises.specs.Survivors.{Call, mark, clear, ask, count, list, save, load, check}
 
 -- the outputs that list and save get: so many zeros
 abbrev pub zeros : ℕ → ℕ → List ℕ

@@ -6,7 +6,7 @@ use mathlib.Core.List.{List, [], _∷_}
 use lib.ListN.{length}
 use Rattle.measures.specs.Sizes.{ValidSizes, storeWords}
 use Rattle.promises.specs.Calls.{asked}
-use Rattle.history.specs.Survivors.{Call, mark, survivors}
+use Rattle.promises.specs.Survivors.{Call, mark, survivors}
 use Rattle.history.specs.Run.{History}
 use Rattle.history.specs.Script.{callsOf}
 

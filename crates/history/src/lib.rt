@@ -2,7 +2,7 @@
 ghost use Prim.Native.Nat.{_+_, _*_, _≤_};
 ghost use mathlib.Core.Path.{_≡_};
 ghost use lib.ListN.{length, take, drop};
-ghost use Rattle.history.specs.Survivors.{list, save, load};
+ghost use Rattle.promises.specs.Survivors.{list, save, load};
 ghost use Rattle.history.specs.Run.{Step, Run};
 ghost use Rattle.history.specs.Script.{zeros, callOf, encodedAt, callsOf};
 ghost use Rattle.history.specs.Whole.{RunMeets, SampleRan};
@@ -111,7 +111,7 @@ pub fn replay(store: &mut [u32], script: &[u32], images: &[u8])
 pub fn run(store: &mut [u32], m: u32, k: u32, most: u32, script: &[u32], images: &[u8]) -> u32
     ensures { λ r. ⌜ RunMeets (now (store .entry)) (now (store .exit)) m k most (now (script .entry)) (now (images .entry)) r ⌝ }
 {
-    let number = register::refusal_of(register::make(store, m, k, most));
+    let number = answers::refusal_of(register::make(store, m, k, most));
     if number == 0 {
         replay(store, script, images);
     }

@@ -1,4 +1,4 @@
 pub mod Parts
 pub mod Judged
-pub mod PixelCount
-pub mod Reading
+pub mod Held
+pub mod Writing

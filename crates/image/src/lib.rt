@@ -1,4 +1,4 @@
-// The image: the parts of the sender's bytes, and who is refused with 10, 11 or 12.
+// The image: its bytes, read as parts and written entry by entry; who is refused with 10 or 11.
 pub mod fit;
 pub mod parts;
-pub mod reader;
+pub mod writing;

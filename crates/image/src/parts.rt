@@ -6,11 +6,11 @@ ghost use Rattle.image.specs.Parts.{fourAt, entryNumber, pixelNumber, co
 ghost use Rattle.image.specs.Judged.{WellFormed};
 
 // The sizes come first: m, k, e and n. Of each entry, four bytes are its code and one its level.
-const HEADER_BYTES: usize = 10;
+pub const HEADER_BYTES: usize = 10;
 
-const CODE_BYTES: usize = 4;
+pub const CODE_BYTES: usize = 4;
 
-const ENTRY_BYTES: usize = CODE_BYTES + 1;
+pub const ENTRY_BYTES: usize = CODE_BYTES + 1;
 
 // A byte as a number.
 pub fn byte_at(bytes: &[u8], at: usize) -> u32

@@ -1,55 +1,74 @@
 -- What each way out of list shows.
 use Prim.Native.Nat.{ℕ, _≤_, _<_}
 use native.Mathlib.Omega.{arith}
-use mathlib.Core.Path.{_≡_, refl, ap, subst, _∙_}
-use mathlib.Core.List.{List}
+use native.Mathlib.Nat.{zero-add}
+use mathlib.Core.Path.{_≡_, refl, ap, ap₂, subst, _∙_}
+use mathlib.Core.Logic.{⊎-elim, inl, inr}
+use mathlib.Core.List.{List, _++_}
 use lib.ListN.{length, take, drop, length-append, length-drop}
 use lib.Seq.{length-take-le, drop-at}
 use Rattle.pktree.specs.Window as tree
 use Rattle.pktree.specs.Window.{found}
-use Rattle.pktree.proofs.Absurd.{zero-is-not-one}
 use Rattle.measures.specs.Layout.{LaidOut, layoutOf, levelAboveRoot}
 use Rattle.measures.specs.Sizes.{UsableStore, panelOf, sizesOf}
 use Rattle.measures.specs.declared.sizes.Sizes.{Sizes}
 use Rattle.measures.specs.declared.sizes.Layout.{Layout}
 use Rattle.store.specs.Sound.{Holds}
+use Rattle.answers.specs.declared.Refusal.{Refusal}
+use Rattle.promises.specs.Answer.{Answer, accepted, refused, short}
+use Rattle.promises.specs.Effect.{effect, passed, stopped}
+use Rattle.promises.specs.Walk.{Spoiled}
+use Rattle.promises.specs.Calls as calls
+use Rattle.promises.proofs.Answers.{refusal-of}
+use Rattle.answers.specs.declared.Counting.{Counting}
+use Rattle.answers.specs.declared.Counting.the-variants.{Found, Refused}
+use Rattle.answers.specs.Answer.{numberOf, countAnswer}
+use Rattle.answers.proofs.Numbers.{is-refused}
 use Rattle.query.specs.declared.count.Sum.{Sum}
-use Rattle.query.specs.declared.count.Counted.{Counted}
-use Rattle.query.specs.declared.count.Counted.the-variants.{Seen, Damaged}
 use Rattle.query.specs.declared.window.Window.{Window}
 use Rattle.query.specs.declared.window.Corners.{Corners}
 use Rattle.query.specs.Corners.{windowBetween, windowOf, CornersOf, Ordered}
-use Rattle.query.specs.Counting.{BeginsOnPanel, BlockCounted, SumWithin, CountAnswer}
+use Rattle.query.specs.Counting.{BeginsOnPanel, BlockCounted, SumWithin, CanCount}
 use Rattle.query.proofs.WholeTree.{whole-tree}
 use Rattle.query.proofs.RootCount.{rangeOf, of-root, count-answered}
-use Rattle.listing.specs.declared.Listed.the-variants.{Written, Short, Damaged}
-use Rattle.listing.specs.Listing.{writtenAt, BlockListed, RootListed, ListAnswer}
+use Rattle.listing.specs.Listing.{writtenAt, BlockListed, RootListed, CountedBefore}
 use Rattle.listing.proofs.WrittenAt.{written-front}
 
-module _ {words : List ℕ} {window : tree.Window} {counted : Counted} (count : CountAnswer words window counted) where
-  pub not-counted : {before : List ℕ} → counted ≡ Damaged → ListAnswer words window before before Damaged
-  not-counted e =
-      record {
-        bounds = tt;
-        sound = λ set holds ordered on. let s = count .sound set holds ordered on in zero-is-not-one (cc);
-        short = λ n f. zero-is-not-one (cc);
-        rest = λ n m f. refl;
-        long = refl;
-        closed = λ shut. refl;
-      }
+-- 13 of count is 13 of list, with nothing written
+pub not-counted : {words before : List ℕ} (window : tree.Window) {counted : Counting} {refusal : Refusal} → counted ≡ Refused refusal
+    → calls.Counts words window (effect (countAnswer counted) words words) → calls.Lists words window (effect (refused (numberOf refusal)) before before)
+not-counted {words} {before} window {refusal = refusal} e count = go (rw e at count)
+  where
+    go : calls.Counts words window (effect (refused (numberOf refusal)) words words) → calls.Lists words window (effect (refused (numberOf refusal)) before before)
+    go c = record {
+      ends = ⊎-elim (λ a. absurd (is-refused refusal (a .accepted))) (λ d. inr (d .0, refl)) (c .ends);
+      spoiled = c .spoiled;
+      sound = λ set holds. absurd (is-refused refusal (refusal-of (c .sound set holds .is)));
+    }
 
-  module _ {n m : ℕ} (e : counted ≡ Seen n m) where
-    pub too-short : {before : List ℕ} {w : ℕ} → w ≡ n → length before < w → ListAnswer words window before before (Short n)
-    too-short {before} wide h =
-        let b = rw e at (count .bounds) in
-        record {
-          bounds = record { found-to = b .found-to; opened-to = omega arith };
-          sound = λ set holds ordered on. let s = count .sound set holds ordered on in ((cc), omega arith, refl);
-          short = λ x f. let p : n ≡ x = cc in (refl, omega arith);
-          rest = λ x m f. refl;
-          long = refl;
-          closed = λ shut. let s = count .closed shut in zero-is-not-one (cc);
-        }
+pub counted-before : {words : List ℕ} (window : tree.Window) {counted : Counting} {n m : ℕ} → counted ≡ Found n m
+    → calls.Counts words window (effect (countAnswer counted) words words) → CountedBefore words window n
+counted-before window {m = m} e count = record { opened = m; counts = rw e at count }
+
+module _ {words : List ℕ} {window : tree.Window} {n : ℕ} (count : CountedBefore words window n) where
+  -- what was found is what 01 finds
+  found-is : {set : List ℕ} → Holds words set → n ≡ length (found window set)
+  found-is {set} holds = ap (λ (a : Answer). a .first) (count .counts .sound set holds .is)
+
+  -- never more than N
+  found-few : n ≤ sizesOf words .most
+  found-few = ⊎-elim (λ a. a .first-to) (λ d. absurd (omega (arith, refusal-of (d .0)))) (count .counts .ends)
+
+  not-spoiled : Spoiled words → ⊥
+  not-spoiled s = omega (arith, refusal-of (count .counts .spoiled s))
+
+  pub too-short : {before : List ℕ} {w : ℕ} → w ≡ n → length before < w → calls.Lists words window (effect (short n) before before)
+  too-short wide h =
+      record {
+        ends = inl (inr (record { returns = record { is = refl; same = refl }; lacks = omega arith; needed-to = found-few }));
+        spoiled = λ s. absurd (not-spoiled s);
+        sound = λ set holds. stopped (λ l. omega (arith, l, found-is holds)) (record { is = ap short (found-is holds); same = refl });
+      }
 
 -- the walk counts too
 walk-counts : {words before after : List ℕ} {order : ℕ} {layout : Layout} {corners : Corners} {sum : Sum}
@@ -68,24 +87,20 @@ module _ {words before after : List ℕ} {corners : Corners} {sum : Sum} (usable
       (omega (arith, t .few-opened)) (omega (arith, n))
       ∙ ap (writtenAt before 0) (t .all-found)
 
-module _ {words before after : List ℕ} {sizes : Sizes} {layout : Layout} {window : Window} {corners : Corners} {counted r : Counted} {n m w : ℕ} {sum : Sum}
-    (usable : UsableStore words) (said : sizes ≡ sizesOf words) (laid : LaidOut sizes layout) (same : CornersOf window corners)
-    (count : CountAnswer words (windowOf window) counted) (e : counted ≡ Seen n m) (wide : w ≡ n) (fits : w ≤ length before)
+module _ {words before after : List ℕ} {sizes : Sizes} {layout : Layout} {window : Window} {corners : Corners} {r : Counting} {n w : ℕ} {sum : Sum}
+    (can : CanCount words sizes window) (laid : LaidOut sizes layout) (same : CornersOf window corners) (count : CountedBefore words (windowOf window) n) (wide : w ≡ n) (fits : w ≤ length before)
     (root : RootListed (rangeOf layout corners) words (sizes .order) w before after sum) (within : SumWithin (sizes .most) layout sum r) where
   -- the walk from the root answers as count does
-  again : CountAnswer words (windowOf window) r
-  again = count-answered usable said laid same (walk-counts (root .meets)) within
+  again : calls.Counts words (windowOf window) (effect (countAnswer r) words words)
+  again = count-answered can laid same (walk-counts (root .meets)) within
 
-  all-wrote : (set : List ℕ) → Holds words set → Ordered (windowOf window) → BeginsOnPanel (panelOf (sizesOf words)) (windowOf window)
-      → after ≡ writtenAt before 0 (found (windowOf window) set)
-  all-wrote set holds ordered on =
-      let s = count .sound set holds ordered on in
-      let p : n ≡ length (found (windowOf window) set) = cc in
-      root .is ∙ written-front before (root .part) (found (windowOf window) set) w (omega arith) fits
+  all-wrote : {set : List ℕ} → Holds words set → after ≡ writtenAt before 0 (found (windowOf window) set)
+  all-wrote {set} holds =
+      root .is ∙ written-front before (root .part) (found (windowOf window) set) w (omega (arith, found-is count holds)) fits
       (subst (λ (x : tree.Window). Ordered x → BeginsOnPanel (panelOf (sizesOf words)) x → length (found x set) ≤ length (take w before)
       → root .part ≡ writtenAt (take w before) 0 (found x set)) (same .same-window)
-      (root-wrote usable (of-root words (λ l z. BlockListed (rangeOf l corners) words levelAboveRoot 0 (z .order) 0 (take w before) (root .part) 0 0 sum) said laid (root .meets)) set holds)
-      ordered on (omega (arith, length-take-le w before fits)))
+      (root-wrote (can .usable) (of-root words (λ l z. BlockListed (rangeOf l corners) words levelAboveRoot 0 (z .order) 0 (take w before) (root .part) 0 0 sum) (can .sizes-are) laid (root .meets)) set holds)
+      (can .ordered) (can .begins) (omega (arith, found-is count holds, length-take-le w before fits)))
 
   part-long : length (root .part) ≡ w
   part-long = root .meets .long ∙ length-take-le w before fits
@@ -93,31 +108,35 @@ module _ {words before after : List ℕ} {sizes : Sizes} {layout : Layout} {wind
   same-length : length after ≡ length before
   same-length = ap length (root .is) ∙ omega (arith, length-append (root .part) (drop w before), length-drop w before, part-long)
 
-  pub not-listed : r ≡ Damaged → ListAnswer words (windowOf window) before after Damaged
-  not-listed f =
-      record {
-        bounds = tt;
-        sound = λ set holds ordered on. zero-is-not-one (cc (again .sound set holds ordered on));
-        short = λ x g. zero-is-not-one (cc);
-        rest = λ x m g. zero-is-not-one (cc);
-        long = same-length;
-        closed = λ shut. refl;
+  rest-same : drop n after ≡ drop n before
+  rest-same = subst (λ (i : ℕ). drop i after ≡ drop i before) wide (ap (drop w) (root .is) ∙ drop-at (root .part) (drop w before) w part-long)
+
+  pub not-listed : {refusal : Refusal} → r ≡ Refused refusal → calls.Lists words (windowOf window) (effect (refused (numberOf refusal)) before after)
+  not-listed {refusal} e = go (rw e at again)
+    where
+      go : calls.Counts words (windowOf window) (effect (refused (numberOf refusal)) words words) → calls.Lists words (windowOf window) (effect (refused (numberOf refusal)) before after)
+      go c = record {
+        ends = ⊎-elim (λ a. absurd (is-refused refusal (a .accepted))) (λ d. inr (d .0, same-length)) (c .ends);
+        spoiled = c .spoiled;
+        sound = λ set holds. absurd (is-refused refusal (refusal-of (c .sound set holds .is)));
       }
 
-  pub listed : {x y : ℕ} → r ≡ Seen x y → ListAnswer words (windowOf window) before after (Written n y)
-  listed {x} {y} f =
-      let b = rw e at (count .bounds) in
-      let o = rw f at (again .bounds) in
-      record {
-        bounds = (record { found-to = b .found-to; opened-to = o .opened-to }, omega arith);
-        sound = λ set holds ordered on.
-            let s = count .sound set holds ordered on in
-            let a = again .sound set holds ordered on in
-            ((cc), (cc), omega arith, all-wrote set holds ordered on);
-        short = λ n g. zero-is-not-one (cc);
-        rest = λ x m g.
-            let p : w ≡ x = cc in
-            rw (← p) (ap (drop w) (root .is) ∙ drop-at (root .part) (drop w before) w part-long);
-        long = same-length;
-        closed = λ shut. let s = count .closed shut in zero-is-not-one (cc);
+  pub listed : {x opened : ℕ} → r ≡ Found x opened → calls.Lists words (windowOf window) (effect (accepted n opened) before after)
+  listed {x} {opened} e = go (rw e at again)
+    where
+      go : calls.Counts words (windowOf window) (effect (accepted x opened) words words) → calls.Lists words (windowOf window) (effect (accepted n opened) before after)
+      go c = record {
+        ends = inl (inl (record {
+          accepts = record { accepted = refl; first-to = found-few count; second-to = ⊎-elim (λ a. a .second-to) (λ d. absurd (omega (arith, refusal-of (d .0)))) (c .ends) };
+          room = omega arith;
+          rest = rest-same;
+          long = same-length;
+        }));
+        spoiled = λ s. absurd (not-spoiled count s);
+        sound = λ set holds.
+            passed (omega (arith, found-is count holds))
+            (record {
+              is = ap₂ accepted (found-is count holds) (ap (λ (a : Answer). a .second) (c .sound set holds .is));
+              wrote = all-wrote holds ∙ ap (λ (i : ℕ). found (windowOf window) set ++ drop i before) (zero-add (length (found (windowOf window) set)));
+            });
       }

@@ -8,20 +8,21 @@ use lib.ListN.{length, set, length-set}
 use Rattle.pktree.specs.Elements.{Forest, empty, pixel, _⧺_}
 use Rattle.pktree.specs.Tree.{pixels}
 use Rattle.pktree.specs.Window.{Window, found}
-use Rattle.measures.specs.Layout.{LayoutFits, moreThanSlots}
+use Rattle.measures.specs.Layout.{LayoutFits}
 use Rattle.store.specs.declared.elements.Element.{Element}
 use Rattle.store.specs.declared.elements.Element.the-variants.{Block}
 use Rattle.store.specs.declared.opening.Opening.{Opening}
 use Rattle.store.specs.declared.opening.Opening.the-variants.{Damaged}
 use Rattle.walks.specs.Entered.{Entered}
-use Rattle.walks.proofs.Walks.{Walk, ElementWalked, InLoop, walked-child, none-entered, loop-inside, loop-open}
+use Rattle.walks.proofs.Walks.{Walk, ElementWalked, InLoop, never-barred, walked-child, loop-inside, loop-open}
 use Rattle.query.specs.declared.count.RangeQuery.{RangeQuery}
 use Rattle.query.specs.declared.count.Sum.{Sum}
 use Rattle.query.specs.declared.window.Corners.{Corners}
 use Rattle.query.specs.Corners.{windowBetween, PixelTested, BlockTested}
 use Rattle.query.proofs.WindowParts.{found-join, found-in-join, opened-join}
 use Rattle.query.proofs.SeenParts.{pixel-outside, pixel-inside, child-skipped, child-opened}
-use Rattle.query.proofs.Counts.{count-walk, outside-not-counted, inside-counted, skipped-counts, opened-counts, pixel-counted}
+use Rattle.query.specs.Counting.{tooMany}
+use Rattle.query.proofs.Counts.{count-walk, outside-not-counted, inside-counted, skipped-counts, opened-counts, pixel-counted, count-full, count-barred}
 use Rattle.listing.specs.Listing.{Lists, BlockListed, PixelListed}
 use Rattle.listing.proofs.WrittenAt.{written-none, written-one, written-join, length-written}
 
@@ -102,21 +103,21 @@ module _ {range : RangeQuery} {words : List ℕ} {element : Element} {level n m 
       })
 
 module _ {range : RangeQuery} {words : List ℕ} {above slot level code found opened : ℕ} {before : List ℕ} where
-  pub list-full : {n : ℕ} → n ≡ opened → range .layout .slots ≤ n → LayoutFits (range .layout) words
-      → BlockListed range words above slot level code before before found opened (record { found = 0; opened = moreThanSlots })
-  list-full is full fits =
+  -- as many blocks were opened as there are slots
+  pub list-full : {n : ℕ} {r : Sum} → n ≡ opened → range .layout .slots ≤ n → r ≡ tooMany → LayoutFits (range .layout) words
+      → BlockListed range words above slot level code before before found opened r
+  list-full same full is fits =
+      let counted = count-full {range = range} {found = found} same full is fits in
       record {
-        inside = record {
-          right = λ k es low view.
-              record { counts = record { says = λ ordered few room. absurd (omega arith) }; wrote = λ ordered few room fits. absurd (omega arith) };
-        };
+        inside = record { right = λ k es low view. record { counts = counted .inside .right k es low view; wrote = λ ordered few room fits. absurd (omega arith) } };
         long = refl;
-        closed = λ shut. omega (arith, fits .within .slots-to);
+        closed = counted .closed;
       }
 
-  pub list-barred : {o : Opening} → o ≡ Damaged → Entered (range .layout) words above slot level code o → LayoutFits (range .layout) words
-      → BlockListed range words above slot level code before before found opened (record { found = 0; opened = moreThanSlots })
-  list-barred e entered fits = record { inside = none-entered e entered fits; long = refl; closed = λ shut. omega (arith, fits .within .slots-to) }
+  pub list-barred : {o : Opening} {r : Sum} → o ≡ Damaged → r ≡ tooMany → Entered (range .layout) words above slot level code o → LayoutFits (range .layout) words
+      → BlockListed range words above slot level code before before found opened r
+  list-barred e is entered fits =
+      record { inside = record { right = λ k es low view. absurd (never-barred e entered fits low view) }; long = refl; closed = count-barred {range = range} {found = found} {opened = opened} e is entered fits .closed }
 
   pub list-whole : {count i n m : ℕ} {part after : List ℕ}
       → InLoop (Lists range) (range .layout) words above slot level code count part i (before, found, opened + 1) (after, n, m) → count ≤ i → length after ≡ length before

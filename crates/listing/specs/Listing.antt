@@ -4,22 +4,21 @@ use mathlib.Core.Path.{_≡_}
 use mathlib.Core.List.{List, _++_}
 use lib.ListN.{length, take, drop}
 use Rattle.pktree.specs.Elements.{Forest, empty, pixel}
-use Rattle.pktree.specs.PixelSet.{member}
-use Rattle.pktree.specs.Tree.{pixels, tree as setTree}
+use Rattle.pktree.specs.Tree.{pixels}
 use Rattle.pktree.specs.Window as tree
 use Rattle.pktree.specs.Window.{found, openedByWindow}
 use Rattle.measures.specs.Layout.{levelAboveRoot}
-use Rattle.measures.specs.Sizes.{panelOf, sizesOf, largestMost}
-use Rattle.store.specs.Sound.{Holds}
-use Rattle.store.specs.Opening.{CannotOpen, RootCannotOpen}
+use Rattle.measures.specs.Sizes.{largestMost}
+use Rattle.store.specs.Opening.{CannotOpen}
 use Rattle.walks.proofs.Walks.{InsideWalked}
 use Rattle.query.specs.declared.count.RangeQuery.{RangeQuery}
 use Rattle.query.specs.declared.count.Sum.{Sum}
-use Rattle.listing.specs.declared.Listed.{Listed}
-use Rattle.listing.specs.declared.Listed.the-variants.{Written, Short, Damaged}
+use Rattle.promises.specs.Answer.{accepted}
+use Rattle.promises.specs.Effect.{effect}
+use Rattle.promises.specs.Calls as calls
 use Rattle.query.specs.declared.window.Corners.{Corners}
 use Rattle.query.specs.Corners.{windowBetween, Ordered}
-use Rattle.query.specs.Counting.{foundIn, BeginsOnPanel, WithinSizes, Counts, PixelCounted}
+use Rattle.query.specs.Counting.{foundIn, Counts, PixelCounted}
 
 -- these codes written from index `at` on, the rest unchanged
 abbrev pub writtenAt : List ℕ → ℕ → List ℕ → List ℕ
@@ -52,25 +51,7 @@ pub record PixelListed (corners : Corners) (code at : ℕ) (before after : List 
   pub long : length after ≡ length before
   pub wrote : Ordered (windowBetween corners) → Wrote (windowBetween corners) (pixel code empty) at before after
 
--- list's answer, with what it leaves in the output
-abbrev pub ListCase : List ℕ → tree.Window → List ℕ → List ℕ → Forest → List ℕ → Listed → Type 0
-ListCase words window before after t set (Written n opened) =
-    (n ≡ length (found window set)) × (opened ≡ openedByWindow window t) × (n ≤ length before) × (after ≡ writtenAt before 0 (found window set))
-ListCase words window before after t set (Short n) = (n ≡ length (found window set)) × (length before < n) × (after ≡ before)
-ListCase words window before after t set Damaged = ⊥
-
--- whatever the words are: never more pixels found, or found to be needed, than N, nor more than the output holds, nor more blocks opened than S
-abbrev pub ListWithin : List ℕ → List ℕ → Listed → Type 0
-ListWithin words before (Written n opened) = WithinSizes words n opened × (n ≤ length before)
-ListWithin words before (Short n) = WithinSizes words n 0
-ListWithin words before Damaged = Unit {0}
-
-pub record ListAnswer (words : List ℕ) (window : tree.Window) (before after : List ℕ) (r : Listed) : Type 0 where
-  pub bounds : ListWithin words before r
-  pub sound : (set : List ℕ) → Holds words set → Ordered window → BeginsOnPanel (panelOf (sizesOf words)) window
-      → ListCase words window before after (setTree (panelOf (sizesOf words)) (member set)) set r
-  pub short : (n : ℕ) → r ≡ Short n → (after ≡ before) × (length before < n)
-  -- no word past those found is written
-  pub rest : (n opened : ℕ) → r ≡ Written n opened → drop n after ≡ drop n before
-  pub long : length after ≡ length before
-  pub closed : RootCannotOpen words → r ≡ Damaged
+-- count has found so many pixels
+pub record CountedBefore (words : List ℕ) (window : tree.Window) (n : ℕ) : Type 0 where
+  pub opened : ℕ
+  pub counts : calls.Counts words window (effect (accepted n opened) words words)

@@ -1,20 +1,23 @@
 // Listing: the walk of count, which also writes the codes that it finds.
 ghost use Prim.Native.Nat.{_≤_};
-ghost use mathlib.Core.Path.{_≡_};
 ghost use lib.ListN.{length};
-ghost use Rattle.listing.specs.Listing.{PixelListed, BlockListed, RootListed, ListAnswer};
-ghost use Rattle.query.specs.Corners.{windowOf, HasCodes};
+ghost use Rattle.promises.specs.Effect.{effect};
+ghost use Rattle.promises.specs.Calls as calls;
+ghost use Rattle.answers.specs.Answer.{listAnswer};
+ghost use Rattle.listing.specs.Listing.{PixelListed, BlockListed, RootListed, CountedBefore};
+ghost use Rattle.query.specs.Corners.{windowOf};
+ghost use Rattle.query.specs.Counting.{CanCount};
 ghost use Rattle.measures.specs.Layout.{LayoutFits};
-ghost use Rattle.measures.specs.Sizes.{UsableStore, sizesOf};
+use answers::Counting;
+use answers::Listing;
 use measures::sizes::Sizes;
 use measures::sizes::layout_of;
 use measures::slots::LEVEL_ABOVE_ROOT;
-use measures::slots::MORE_THAN_SLOTS;
 use measures::slots::wide;
-use query::count::Counted;
 use query::count::RangeQuery;
 use query::count::Sum;
 use query::count::count;
+use query::count::too_many;
 use query::count::within;
 use query::window::Corners;
 use query::window::Window;
@@ -52,47 +55,34 @@ fn list_block(
     level: u32,
     code: u32,
     output: &mut [u32],
-    found: u32,
-    opened: u32,
+    pixels: u32,
+    blocks: u32,
 ) -> Sum
     requires { ⌜ LayoutFits (range .layout) (now store) ⌝ }
-    ensures { λ r. ⌜ BlockListed range (now (store .entry)) above slot level code (now (output .entry)) (now (output .exit)) found opened r ⌝ }
+    ensures { λ r. ⌜ BlockListed range (now (store .entry)) above slot level code (now (output .entry)) (now (output .exit)) pixels blocks r ⌝ }
 {
-    if range.layout.slots <= wide(opened) {
-        return Sum {
-            found: 0,
-            opened: MORE_THAN_SLOTS,
-        };
+    if range.layout.slots <= wide(blocks) {
+        return too_many();
     }
     let Opening::Elements(count) = enter(store, range.layout, above, slot, level, code) else {
-        return Sum {
-            found: 0,
-            opened: MORE_THAN_SLOTS,
-        };
+        return too_many();
     };
     let part = part_of(store, range.layout, slot);
-    let mut pixels = found;
-    let mut blocks = opened + 1;
+    let mut found = pixels;
+    let mut opened = blocks + 1;
     for i in 0..count {
         match element_at(part, i) {
-            Element::Pixel(c) => pixels = list_pixel(range.corners, c, output, pixels),
-            Element::Block {
-                slot: s,
-                level: inner,
-                code: c,
-            } => {
+            Element::Pixel(c) => found = list_pixel(range.corners, c, output, found),
+            Element::Block(s, inner, c) => {
                 if meets(range.corners, inner, c) {
-                    let sum = list_block(store, range, level, s, inner, c, output, pixels, blocks);
-                    pixels = sum.found;
-                    blocks = sum.opened;
+                    let sum = list_block(store, range, level, s, inner, c, output, found, opened);
+                    found = sum.found;
+                    opened = sum.opened;
                 }
             }
         }
     }
-    Sum {
-        found: pixels,
-        opened: blocks,
-    }
+    Sum { found, opened }
 }
 
 // The walk from the root into the first n words; those past them are not lent.
@@ -113,23 +103,20 @@ fn list_root(store: &[u32], range: RangeQuery, order: u32, output: &mut [u32], n
     )
 }
 
-pub enum Listed {
-    Written { found: u32, opened: u32 },
-    Short(u32),
-    Damaged,
-}
-
-// 01's list, where refusals 3, 4 and 8 do not apply: it counts first, so that nothing is written to an output that is too short.
-pub fn list(store: &[u32], sizes: Sizes, window: Window, output: &mut [u32]) -> Listed
-    requires { ⌜ UsableStore (now store) × (sizes ≡ sizesOf (now store)) × HasCodes window ⌝ }
-    ensures { λ r. ⌜ ListAnswer (now (store .entry)) (windowOf window) (now (output .entry)) (now (output .exit)) r ⌝ }
+// So many pixels were counted: they are written, where the output has room for them.
+fn list_counted(
+    store: &[u32],
+    sizes: Sizes,
+    window: Window,
+    output: &mut [u32],
+    found: u32,
+) -> Listing
+    requires { ⌜ CanCount (now store) sizes window × CountedBefore (now store) (windowOf window) found ⌝ }
+    ensures { λ r. ⌜ calls.Lists (now (store .entry)) (windowOf window) (effect (listAnswer r) (now (output .entry)) (now (output .exit))) ⌝ }
 {
-    let Counted::Seen { found, opened: _ } = count(store, sizes, window) else {
-        return Listed::Damaged;
-    };
     let n = wide(found);
     if output.len() < n {
-        return Listed::Short(found);
+        return Listing::Short(found);
     }
     let layout = layout_of(sizes);
     let range = RangeQuery {
@@ -137,8 +124,19 @@ pub fn list(store: &[u32], sizes: Sizes, window: Window, output: &mut [u32]) -> 
         corners: corners_of(window),
     };
     let sum = list_root(store, range, sizes.order, output, n);
-    let Counted::Seen { found: _, opened } = within(sizes.most, layout, sum) else {
-        return Listed::Damaged;
-    };
-    Listed::Written { found, opened }
+    match within(sizes.most, layout, sum) {
+        Counting::Found { found: _, opened } => Listing::Found { found, opened },
+        Counting::Refused(refusal) => Listing::Refused(refusal),
+    }
+}
+
+// 01's list, where refusals 3, 4 and 8 do not apply: it counts first, so that nothing is written to an output that is too short.
+pub fn list(store: &[u32], sizes: Sizes, window: Window, output: &mut [u32]) -> Listing
+    requires { ⌜ CanCount (now store) sizes window ⌝ }
+    ensures { λ r. ⌜ calls.Lists (now (store .entry)) (windowOf window) (effect (listAnswer r) (now (output .entry)) (now (output .exit))) ⌝ }
+{
+    match count(store, sizes, window) {
+        Counting::Found { found, opened: _ } => list_counted(store, sizes, window, output, found),
+        Counting::Refused(refusal) => Listing::Refused(refusal),
+    }
 }

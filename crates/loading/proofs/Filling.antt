@@ -11,9 +11,10 @@ use Rattle.store.specs.Emptied.{Emptied}
 use Rattle.measures.proofs.SlotWrites.{take-less}
 use Rattle.measures.proofs.Usable.{sizes-kept}
 use Rattle.image.specs.Parts.{fourAt, entriesAt}
-use Rattle.update.specs.declared.marks.Marking.{Marking}
-use Rattle.update.specs.declared.marks.Marking.the-variants as marking
-use Rattle.update.specs.Changed.{MarkAnswer}
+use Rattle.promises.specs.Answer.{Answer}
+use Rattle.promises.specs.Effect.{effect}
+use Rattle.promises.specs.Calls.{Marks}
+use Rattle.promises.proofs.Ladder.{where-holds}
 use Rattle.loading.specs.Filled.{pixelsTo, EntryDue, FillDue, ReplaceDue, Replaced}
 use Rattle.loading.proofs.NextPixels.{pixels-after-block, next-not-before, next-has-room, next-added}
 
@@ -72,22 +73,16 @@ module _ (before codes levels : List ℕ) (sizes : Sizes) (at : ℕ) (due : Entr
   block-passed ne = rw (pixels-after-block codes levels at ne) (nothing-done before (pixelsTo codes levels at) (due .holds))
 
   -- the pixel is not held yet and has room, so `mark` marks it
-  pub pixel-marked : (after : List ℕ) → getD levels at 0 ≡ 0 → (r : Marking) → MarkAnswer before after (fourAt codes (4 * at)) r → Replaced before after (pixelsTo codes levels (at + 1))
-  pixel-marked after is marking.Marked a =
-      let s = a .sound (pixelsTo codes levels at) (due .holds) in
-      let holds : Holds after (pixelsTo codes levels (at + 1)) = rw (next-added codes levels at sizes (due .given) (due .below) is) at (s .2) in
+  pub pixel-marked : (after : List ℕ) → getD levels at 0 ≡ 0 → (a : Answer) → Marks before (fourAt codes (4 * at)) (effect a before after) → Replaced before after (pixelsTo codes levels (at + 1))
+  pixel-marked after is a m =
+      let absent = next-not-before codes levels at sizes (due .given) (due .below) is in
+      let room : length (pixelsTo codes levels at) < sizesOf before .most = omega (arith, next-has-room codes levels at sizes (due .given) (due .below) is, ap (λ (z : Sizes). z .most) (due .sizes-are)) in
+      let b = where-holds (where-holds (m .sound (pixelsTo codes levels at) (due .holds)) absent) room in
+      let holds : Holds after (pixelsTo codes levels (at + 1)) = rw (next-added codes levels at sizes (due .given) (due .below) is) at (b .holds) in
       record {
         holds = holds;
-        sizes-same = s .3;
-        head = front-kept before after (due .holds .sound .usable) (holds .sound .usable) (s .3);
-        past = a .past;
-        long = a .long;
+        sizes-same = b .sizes-are;
+        head = front-kept before after (due .holds .sound .usable) (holds .sound .usable) (b .sizes-are);
+        past = b .done .within .past;
+        long = b .done .within .long;
       }
-  pixel-marked after is marking.Already a =
-      let s = a .sound (pixelsTo codes levels at) (due .holds) in
-      let clash : _≡_ {A = ℕ} 0 1 = cc (s .0, next-not-before codes levels at sizes (due .given) (due .below) is) in
-      absurd (omega arith)
-  pixel-marked after is marking.Full a =
-      let s = a .sound (pixelsTo codes levels at) (due .holds) in
-      absurd (omega (arith, s .1, next-has-room codes levels at sizes (due .given) (due .below) is, ap (λ (z : Sizes). z .most) (due .sizes-are)))
-  pixel-marked after is marking.Damaged a = absurd (a .sound (pixelsTo codes levels at) (due .holds))

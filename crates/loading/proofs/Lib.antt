@@ -2,4 +2,3 @@ pub mod NextPixels
 pub mod Filling
 pub mod ImagePixels
 pub mod LoadEnds
-pub mod Accepted

@@ -9,9 +9,8 @@ use lib.Dec.{leb}
 use lib.Pow.{split}
 use lib.Bits.{bitAnd, and-block, and-zero-r}
 use borrow.Author.Tests.{lt-leb, le-leb}
-use Rattle.morton.specs.Coordinate.{largestSide}
+use Rattle.morton.specs.Coordinate.{largestSide, Between}
 use Rattle.morton.specs.Code.{spreadBits, xOf, yOf}
-use Rattle.morton.specs.Coordinate.{Between}
 use Rattle.morton.proofs.Fields.{evens, laid-bits, even-bits}
 
 -- on numbers of n bits, f ascends

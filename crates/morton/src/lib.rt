@@ -1,8 +1,7 @@
 ghost use mathlib.Core.Path.{_≡_};
 ghost use Prim.Native.Nat.{_*_, _/_, _^_, _≤_, _<_};
 ghost use Rattle.morton.specs.Code.{spreadBits, gatherBits, codeOf, xOf, yOf};
-ghost use Rattle.morton.specs.Coordinate.{Between};
-ghost use Rattle.morton.specs.Coordinate.{Coordinate, largestSide};
+ghost use Rattle.morton.specs.Coordinate.{Between, Coordinate, largestSide};
 ghost use Rattle.morton.specs.CommonLevel.{CommonLevel};
 use std::num::wrapping_sub_u32;
 

@@ -1,18 +1,19 @@
-// 01 "Sample panels", run through the public calls: what is printed is compared with the file stdout beside src.
+// 01 "Sample panels", run through the public calls, and the first of them damaged: what is printed is compared with the file stdout beside src.
 ghost use mathlib.Core.Path.{_≡_};
 ghost use lib.ListN.{length};
-use crate::answers::print_asking;
-use crate::answers::print_counting;
-use crate::answers::print_outcome;
 use crate::entries::print_image;
+use crate::printing::print_asking;
+use crate::printing::print_counting;
+use crate::printing::print_outcome;
+use answers::Listing;
+use answers::Saving;
 use measures::slots::wide;
 use morton::x_of;
 use morton::y_of;
-use register::Listing;
-use register::Saving;
 
-mod answers;
+mod damage;
 mod entries;
+mod printing;
 
 fn main() {
     first_panel();
@@ -22,6 +23,7 @@ fn main() {
     codes();
     limits();
     full_register();
+    damage::survey_first_panel();
 }
 
 // Enough words for every panel here; a function gives them, so that no proof spells them out.

@@ -6,13 +6,13 @@ use mathlib.Core.Path.{_≡_, ap}
 use mathlib.Core.Logic.{⊎-elim}
 use mathlib.Core.Bool.{Bool}
 use mathlib.Core.List.{List}
-use Rattle.saving.specs.Saving.{mostBytes}
-use Rattle.register.specs.declared.Asking.{Asking}
-use Rattle.register.specs.declared.Asking.the-variants as asking
-use Rattle.register.specs.declared.Saving.{Saving}
-use Rattle.register.specs.declared.Saving.the-variants as saving
+use Rattle.image.specs.Held.{mostBytes}
+use Rattle.answers.specs.declared.Asking.{Asking}
+use Rattle.answers.specs.declared.Asking.the-variants as asking
+use Rattle.answers.specs.declared.Saving.{Saving}
+use Rattle.answers.specs.declared.Saving.the-variants as saving
 use Rattle.promises.specs.Answer.{Answer, refused}
-use Rattle.register.specs.Answer.{askAnswer, saveAnswer}
+use Rattle.answers.specs.Answer.{askAnswer, saveAnswer}
 use Rattle.promises.specs.Effect.{passed, stopped}
 use Rattle.promises.specs.Calls.{AskMeets, SaveMeets}
 use Rattle.measures.specs.Sizes.{sizesOf}

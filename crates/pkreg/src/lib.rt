@@ -2,22 +2,22 @@
 // ensures, register's own, of the numbers handed over.
 ghost use mathlib.Core.Path.{_≡_};
 ghost use Rattle.promises.specs.Answer.{yesNo};
-ghost use Rattle.register.specs.Answer.{numberOf};
+ghost use Rattle.answers.specs.Answer.{numberOf};
 ghost use Rattle.promises.specs.Answer as answers;
 ghost use Rattle.promises.specs.Calls.{MakeMeets, MarkMeets, ClearMeets, LoadMeets, AskMeets, CountMeets, ListMeets, SaveMeets, CheckMeets};
 ghost use Rattle.pkreg.specs.Numbers.{numbers, WordsNeeded};
+use answers::Asking;
+use answers::Checking;
+use answers::Counting;
+use answers::Listing;
+use answers::Refusal;
+use answers::Saving;
+use answers::number_of;
+use answers::refusal_of;
 use measures::sizes::Sizes;
 use measures::sizes::layout_of;
 use measures::sizes::store_end;
 use measures::sizes::within_limits;
-use refusals::Refusal;
-use register::Asking;
-use register::Checking;
-use register::Counting;
-use register::Listing;
-use register::Saving;
-use register::number_of;
-use register::refusal_of;
 
 // 01's number and values: refusal 0 is an accepted call.
 #[repr(C)]

@@ -1,4 +1,6 @@
 // 01 "Program pkshow": shows the image on standard input.
+mod show;
+
 fn main() {
     let mut store = show::store_for_400();
     let mut image = [0u8; 4011];

@@ -6,6 +6,7 @@ use crate::blocks::Set;
 use crate::codes::code_of;
 use crate::codes::side_of;
 use crate::images;
+use crate::images::Bytes;
 use crate::window;
 use crate::window::Window;
 
@@ -22,10 +23,6 @@ pub fn answered(refusal: u32, first: usize, second: usize) -> Answer {
         first,
         second,
     }
-}
-
-pub fn refused(refusal: u32) -> Answer {
-    answered(refusal, 0, 0)
 }
 
 // 01: S = 1 + floor((N-1)/(k-1)) slots; the store needs 8 + S × (8 + 10(k-1)) words.
@@ -48,127 +45,96 @@ pub fn make(m: u32, k: u32, most: u32, length: usize, set: &mut Set) -> u32 {
     0
 }
 
-fn pixel_refusal(panel: Panel, length: usize, x: u32, y: u32) -> u32 {
+fn window_refusal(panel: Panel, length: usize, window: Window) -> u32 {
+    let side = side_of(panel.m);
     if length < panel.words {
         return 3;
     }
-    let side = side_of(panel.m);
-    if side <= x || side <= y {
+    if (side <= window.x0) | (side <= window.y0) | (side <= window.x1) | (side <= window.y1) {
         return 4;
     }
-    0
-}
-
-pub fn mark(panel: Panel, length: usize, x: u32, y: u32, set: &mut Set) -> u32 {
-    let refusal = pixel_refusal(panel, length, x, y);
-    if refusal != 0 {
-        return refusal;
-    }
-    if blocks::is_marked(set, code_of(x, y)) {
-        return 5;
-    }
-    if panel.most <= images::pixel_number(panel, set) {
-        return 6;
-    }
-    blocks::put(set, code_of(x, y), true);
-    0
-}
-
-pub fn clear(panel: Panel, length: usize, x: u32, y: u32, set: &mut Set) -> u32 {
-    let refusal = pixel_refusal(panel, length, x, y);
-    if refusal != 0 {
-        return refusal;
-    }
-    if !blocks::is_marked(set, code_of(x, y)) {
-        return 7;
-    }
-    blocks::put(set, code_of(x, y), false);
-    0
-}
-
-// The blocks that contain the pixel are those that share one with the window of it alone.
-pub fn ask(panel: Panel, length: usize, x: u32, y: u32, set: &Set) -> Answer {
-    let window = Window {
-        x0: x,
-        y0: y,
-        x1: x,
-        y1: y,
-    };
-    count(panel, length, window, set)
-}
-
-fn window_refusal(panel: Panel, length: usize, window: Window) -> u32 {
-    let refusal = pixel_refusal(panel, length, window.x0, window.y0);
-    if refusal != 0 {
-        return refusal;
-    }
-    if window.x1 < window.x0 || window.y1 < window.y0 {
+    if (window.x1 < window.x0) | (window.y1 < window.y0) {
         return 8;
     }
     0
 }
 
-pub fn count(panel: Panel, length: usize, window: Window, set: &Set) -> Answer {
-    let refusal = pixel_refusal(panel, length, window.x1, window.y1);
+fn change_refusal(panel: Panel, length: usize, x: u32, y: u32, marked: bool, set: &Set) -> u32 {
+    let refusal = window_refusal(panel, length, window::around(x, y));
     if refusal != 0 {
-        return refused(refusal);
+        return refusal;
     }
+    let was = blocks::is_marked(set, code_of(x, y));
+    if marked & was {
+        return 5;
+    }
+    if marked & (panel.most <= (images::number_of(panel, set, 0) as u32)) {
+        return 6;
+    }
+    if !(marked | was) {
+        return 7;
+    }
+    0
+}
+
+// mark, or clear, after which the pixel is marked, or not.
+pub fn change(panel: Panel, length: usize, x: u32, y: u32, marked: bool, set: &mut Set) -> u32 {
+    let refusal = change_refusal(panel, length, x, y, marked, set);
+    if refusal == 0 {
+        set[(code_of(x, y) % 256) as usize] = marked;
+    }
+    refusal
+}
+
+// Ask is a count in the window of the pixel alone: the blocks that contain the pixel are those that share one with it.
+pub fn count(panel: Panel, length: usize, window: Window, set: &Set) -> Answer {
     let refusal = window_refusal(panel, length, window);
     if refusal != 0 {
-        return refused(refusal);
+        return answered(refusal, 0, 0);
     }
     answered(
         0,
-        window::found(panel, set, window) as usize,
-        window::opened(panel, set, window) as usize,
+        window::entries(panel, set, window, 0, 0) as usize,
+        window::entries(panel, set, window, 1, 4) as usize,
     )
 }
 
-pub fn list(panel: Panel, length: usize, window: Window, set: &Set, output: &mut [u32]) -> Answer {
-    let counted = count(panel, length, window, set);
-    if counted.refusal != 0 {
-        return counted;
+// The answer of a call that writes as many words or bytes as its first number says: list is a count with such an output.
+pub fn with_output(answer: Answer, room: usize) -> Answer {
+    if room < answer.first {
+        return answered(9, answer.first, 0);
     }
-    if output.len() < counted.first {
-        return answered(9, counted.first, 0);
-    }
-    window::write_found(panel, set, window, output);
-    counted
+    answer
 }
 
-pub fn save(panel: Panel, length: usize, set: &Set, output: &mut [u8]) -> Answer {
+pub fn save(panel: Panel, length: usize, set: &Set, room: usize) -> Answer {
+    with_output(
+        opened(panel, length, images::image_length(panel, set)),
+        room,
+    )
+}
+
+// The answer of a call that only a store too short refuses. A register that nothing but calls wrote to is sound: check answers yes, which is 1.
+pub fn opened(panel: Panel, length: usize, first: usize) -> Answer {
     if length < panel.words {
-        return refused(3);
+        return answered(3, 0, 0);
     }
-    let needed = images::image_length(panel, set);
-    if output.len() < needed {
-        return answered(9, needed, 0);
-    }
-    images::write_image(panel, set, output);
-    answered(0, needed, 0)
+    answered(0, first, 0)
 }
 
-pub fn load(panel: Panel, length: usize, image: &[u8], set: &mut Set) -> u32 {
+pub fn load(panel: Panel, length: usize, bytes: &Bytes, image: usize, set: &mut Set) -> u32 {
     if length < panel.words {
         return 3;
     }
-    let refusal = images::header_refusal(panel, image);
+    let refusal = images::header_refusal(panel, bytes, image);
     if refusal != 0 {
         return refusal;
     }
     let mut candidate = [false; 256];
-    images::named_set(image, &mut candidate);
-    if !images::is_image(panel, &candidate, image) {
+    images::named_set(bytes, &mut candidate);
+    if !images::is_image(panel, &candidate, bytes) {
         return 12;
     }
     *set = candidate;
     0
-}
-
-// A register that nothing but calls wrote to is sound, and yes is 1.
-pub fn check(panel: Panel, length: usize) -> Answer {
-    if length < panel.words {
-        return refused(3);
-    }
-    answered(0, 1, 0)
 }

@@ -10,12 +10,9 @@ fn spread(x: u32) -> u32 {
     (x & 1) | ((x & 2) << 1) | ((x & 4) << 2) | ((x & 8) << 3)
 }
 
+// The y of a code is the x of its other bits, code >> 1.
 pub fn x_of(code: u32) -> u32 {
     (code & 1) | ((code >> 1) & 2) | ((code >> 2) & 4) | ((code >> 3) & 8)
-}
-
-pub fn y_of(code: u32) -> u32 {
-    x_of(code >> 1)
 }
 
 // A block of level i has side 2^i.

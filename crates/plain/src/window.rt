@@ -1,7 +1,7 @@
 // What a window finds and opens.
+use crate::blocks;
 use crate::blocks::Panel;
 use crate::blocks::Set;
-use crate::blocks::is_entry;
 use crate::codes;
 
 // Both corners included.
@@ -12,78 +12,62 @@ pub struct Window {
     pub y1: u32,
 }
 
+// The window of one pixel alone.
+pub fn around(x: u32, y: u32) -> Window {
+    Window {
+        x0: x,
+        y0: y,
+        x1: x,
+        y1: y,
+    }
+}
+
 // Whether a block, or at level 0 a pixel, shares a pixel with the window.
 fn shares(window: Window, level: u32, code: u32) -> bool {
     let reach = codes::side_of(level) - 1;
     let x = codes::x_of(code);
-    let y = codes::y_of(code);
-    x <= window.x1 && window.x0 <= (x | reach) && y <= window.y1 && window.y0 <= (y | reach)
+    let y = codes::x_of(code >> 1);
+    (x <= window.x1) & (window.x0 <= (x | reach)) & (y <= window.y1) & (window.y0 <= (y | reach))
 }
 
-// Image order: entries ascend by code; at equal code the higher level comes first. Each code has five places, for the levels 4 to 0.
-pub fn places(panel: Panel) -> u16 {
-    (5 * codes::size_of(panel.m)) as u16
+// An entry of these levels that shares a pixel with the window.
+fn counts(panel: Panel, set: &Set, window: Window, low: u32, high: u32, place: u16) -> bool {
+    let level = blocks::level_at(place);
+    if (low <= level) & (level <= high) & shares(window, level, blocks::code_at(place)) {
+        return blocks::is_entry(panel, set, place);
+    }
+    false
 }
 
-pub fn code_at(place: u16) -> u32 {
-    (place / 5) as u32
-}
-
-pub fn level_at(place: u16) -> u32 {
-    4 - ((place % 5) as u32)
-}
-
-fn counts(panel: Panel, set: &Set, window: Window, blocks: bool, place: u16) -> bool {
-    let level = level_at(place);
-    let code = code_at(place);
-    (1 <= level) == blocks && shares(window, level, code) && is_entry(panel, set, level, code)
-}
-
-// The entries that share a pixel with the window, its instantiated blocks or its pixels.
-fn entries(panel: Panel, set: &Set, window: Window, blocks: bool) -> u16 {
+// Of level 0 alone they are the marked pixels in the window, of levels 1 to 4 the instantiated blocks that share a pixel with it.
+pub fn entries(panel: Panel, set: &Set, window: Window, low: u32, high: u32) -> u16 {
     let mut number = 0;
-    for place in 0..places(panel) {
-        if counts(panel, set, window, blocks, place) {
+    for place in 0..panel.places {
+        if counts(panel, set, window, low, high, place) {
             number += 1;
         }
     }
     number
 }
 
-// The marked pixels in the window.
-pub fn found(panel: Panel, set: &Set, window: Window) -> u16 {
-    entries(panel, set, window, false)
-}
+// What a list of all 256 codes may write to; every word is 7 before.
+pub type Words = [u32; 256];
 
-// The instantiated blocks that share a pixel with the window.
-pub fn opened(panel: Panel, set: &Set, window: Window) -> u16 {
-    entries(panel, set, window, true)
-}
-
-pub fn whole(panel: Panel) -> Window {
-    let last = codes::side_of(panel.m) - 1;
-    Window {
-        x0: 0,
-        y0: 0,
-        x1: last,
-        y1: last,
-    }
-}
-
-// The codes found, in rising order.
-pub fn write_found(panel: Panel, set: &Set, window: Window, words: &mut [u32]) {
-    let mut at = 0;
-    for place in 0..places(panel) {
-        if counts(panel, set, window, false, place) {
-            put_word(words, at, code_at(place));
+// Whether the first words are the codes found, in rising order, where the list was accepted, and the others as before: each code that isn't found leaves one of these alone, from the last down.
+pub fn is_list(set: &Set, window: Window, accepted: bool, words: &Words) -> bool {
+    let mut right = true;
+    let mut at = 0u32;
+    for code in 0..256u32 {
+        if accepted & blocks::is_marked(set, code) & shares(window, 0, code) {
+            right = right & is_word(words, at, code);
             at += 1;
+        } else {
+            right = right & is_word(words, 255 + at - code, 7);
         }
     }
+    right
 }
 
-fn put_word(words: &mut [u32], at: u16, word: u32) {
-    let i = at as usize;
-    if i < words.len() {
-        words[i] = word;
-    }
+fn is_word(words: &Words, at: u32, word: u32) -> bool {
+    words[(at % 256) as usize] == word
 }

@@ -7,7 +7,7 @@ use mathlib.Core.List.{List}
 use lib.ListN.{length, getD, drop}
 use Rattle.measures.specs.declared.sizes.Sizes.{Sizes}
 use Rattle.measures.specs.Sizes.{sizesOf, storeWords}
-use Rattle.saving.specs.Saving.{mostBytes}
+use Rattle.image.specs.Held.{mostBytes}
 use Rattle.promises.specs.Answer.{Answer, refused}
 use Rattle.promises.specs.Effect.{Effect, effect, Returns, passed, stopped}
 use Rattle.promises.specs.Walk.{Accepts}

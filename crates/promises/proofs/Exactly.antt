@@ -6,16 +6,15 @@ use mathlib.Core.Logic.{_⊎_, inl, inr, ⊎-elim, _↔_}
 use mathlib.Core.List.{List, []}
 use lib.ListN.{length}
 use Rattle.measures.specs.Sizes.{sizesOf, storeWords, ValidSizes, UsableStore}
-use Rattle.refusals.specs.Judged.{HasPixelOn, CornersOn}
+use Rattle.promises.specs.Effect.{HasPixelOn, CornersOn, Effect, effect, passed, stopped, OfPixel, OfWindow, InOrder}
 use Rattle.image.specs.Judged.{WellFormed, FitsRegister, ImageOfSome}
-use Rattle.loading.specs.Loaded.{HasImage, SomeHasImage, panelIn, mostIn}
-use Rattle.loading.proofs.Accepted.{image-well-formed, image-fits, image-of-some, one-set}
+use Rattle.image.specs.Held.{HasImage, SomeHasImage, panelIn, mostIn}
+use Rattle.image.proofs.Accepted.{image-well-formed, image-fits, image-of-some, one-set}
 use Rattle.promises.specs.Answer.{Answer, accepted, refused}
-use Rattle.promises.specs.Effect.{Effect, effect, passed, stopped, OfPixel, OfWindow, InOrder}
 use Rattle.promises.specs.Walk.{Walks}
 use Rattle.promises.specs.Change.{Becomes}
 use Rattle.promises.specs.Output.{WrittenOrShort}
-use Rattle.promises.specs.Calls.{asked, MakeMeets, MarkMeets, ClearMeets, Loads, LoadMeets, AskMeets, CountMeets, ListMeets, SaveMeets, CheckMeets}
+use Rattle.promises.specs.Calls.{asked, MakeMeets, MarkMeets, ClearMeets, Loaded, LoadMeets, AskMeets, CountMeets, ListMeets, SaveMeets, CheckMeets}
 use Rattle.promises.proofs.Answers.{refusal-of, first-of}
 use Rattle.promises.proofs.Holding.{Holding, now-holding}
 use Rattle.promises.proofs.Ladder.{number-is, where-holds, never, exactly, then-exactly, accepted-passed}
@@ -136,7 +135,7 @@ module _ {before after bytes : List ℕ} {a : Answer} (meets : LoadMeets before 
       let l = where-holds (where-holds (where-holds (where-holds meets u) (image-well-formed u has)) (image-fits u has)) (image-of-some u has) in
       subst (λ (z : List ℕ). Holding (sizesOf before) z a after) (one-set u (l .has-image) has) (now-holding (l .loaded))
 
-  not-loaded : {number : ℕ} → (0 ≡ number → ⊥) → Loads bytes (effect a before after) → a .refusal ≡ number → ⊥
+  not-loaded : {number : ℕ} → (0 ≡ number → ⊥) → Loaded bytes (effect a before after) → a .refusal ≡ number → ⊥
   not-loaded other l z = other (sym (refusal-of (l .loaded .done .done)) ∙ z)
 
   pub load-refusals : LoadRefusals before bytes a

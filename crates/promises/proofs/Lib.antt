@@ -5,3 +5,5 @@ pub mod Exactly
 pub mod AnyWords
 pub mod OnSound
 pub mod SpoiledRoot
+pub mod ImageTests
+pub mod Keeping

@@ -13,9 +13,8 @@ use Rattle.pktree.specs.Image.{image}
 use Rattle.pktree.proofs.Absurd.{zero-is-not-one}
 use Rattle.measures.specs.Sizes.{panelOf, sizesOf, UsableStore}
 use Rattle.store.specs.Sound.{Holds}
-use Rattle.refusals.specs.Judged.{HasPixelOn, CornersOn}
+use Rattle.promises.specs.Effect.{HasPixelOn, CornersOn, effect, Returns, InOrder}
 use Rattle.promises.specs.Answer.{Answer, accepted, refused, yesNo}
-use Rattle.promises.specs.Effect.{effect, Returns, InOrder}
 use Rattle.promises.specs.Walk.{Spoiled}
 use Rattle.promises.specs.Calls.{MarkMeets, ClearMeets, AskMeets, windowGiven, CountMeets, ListMeets, SaveMeets}
 use Rattle.promises.proofs.Answers.{refusal-of, first-of, second-of}

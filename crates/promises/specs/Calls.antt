@@ -13,8 +13,7 @@ use Rattle.pktree.specs.Image.{image}
 use Rattle.measures.specs.declared.sizes.Sizes.{Sizes}
 use Rattle.measures.specs.Sizes.{ValidSizes, storeWords, sizesOf, UsableStore, panelOf, slotCount}
 use Rattle.image.specs.Judged.{WellFormed, FitsRegister, ImageOfSome}
-use Rattle.loading.specs.Loaded.{HasImage, panelIn, mostIn}
-use Rattle.saving.specs.Saving.{mostBytes}
+use Rattle.image.specs.Held.{HasImage, panelIn, mostIn, mostBytes}
 use Rattle.promises.specs.Answer.{Answer, refused, accepted, yesNo}
 use Rattle.promises.specs.Effect.{effect, _else_then_, Effect, Returns, Unchanged, OfPixel, OfWindow}
 use Rattle.promises.specs.Walk.{Walks, Accepts}
@@ -52,19 +51,20 @@ abbrev pub ClearMeets : List ℕ → List ℕ → ℕ → ℕ → Answer → Typ
 ClearMeets before after x y given = OfPixel before x y (Clears before (codeOf x y)) (effect given before after)
 
 -- load (store, image bytes): a register of the same sizes that holds the image's set, of at most N pixels, also where the store was damaged
-pub record Loads (bytes : List ℕ) (e : Effect) : Type 0 where
+pub record Loaded (bytes : List ℕ) (e : Effect) : Type 0 where
   pub set : List ℕ
   pub has-image : HasImage (panelIn (e .before)) (mostIn (e .before)) bytes set
   pub loaded : Becomes (sizesOf (e .before)) set e
 
-abbrev pub LoadMeets : List ℕ → List ℕ → List ℕ → Answer → Type 0
-LoadMeets before after bytes given =
-    (UsableStore before else refused 3 then
+abbrev pub Loads : List ℕ → List ℕ → Effect → Type 0
+Loads words bytes =
     WellFormed bytes else refused 10 then
-    FitsRegister (panelIn before) (mostIn before) bytes else refused 11 then
-    ImageOfSome (panelIn before) bytes else refused 12 then
-    Loads bytes)
-    (effect given before after)
+    FitsRegister (panelIn words) (mostIn words) bytes else refused 11 then
+    ImageOfSome (panelIn words) bytes else refused 12 then
+    Loaded bytes
+
+abbrev pub LoadMeets : List ℕ → List ℕ → List ℕ → Answer → Type 0
+LoadMeets before after bytes given = (UsableStore before else refused 3 then Loads before bytes) (effect given before after)
 
 -- ask, count and check are lent the store for reading only, so no word of it changes
 

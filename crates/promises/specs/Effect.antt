@@ -3,8 +3,8 @@ use Prim.Native.Nat.{ℕ, _≤_}
 use mathlib.Core.Path.{_≡_}
 use mathlib.Core.List.{List}
 use Rattle.promises.specs.Answer.{Answer, refused}
-use Rattle.measures.specs.Sizes.{UsableStore}
-use Rattle.refusals.specs.Judged.{HasPixelOn, CornersOn}
+use Rattle.pktree.specs.Panel.{HasPixel}
+use Rattle.measures.specs.Sizes.{UsableStore, panelOf, sizesOf}
 
 -- what a call answers, and what it was lent for writing, before and after: the store, or the output of list and save
 pub record Effect : Type 0 where
@@ -28,6 +28,14 @@ infixr 1 _else_then_
 pub data _else_then_ (P : Type 0) (answer : Answer) (rest : Effect → Type 0) (e : Effect) : Type 0 where
   passed : P → rest e → (P else answer then rest) e
   stopped : (P → ⊥) → Returns answer e → (P else answer then rest) e
+
+-- the pixel is on the store's panel
+abbrev pub HasPixelOn : List ℕ → ℕ → ℕ → Type 0
+HasPixelOn words x y = HasPixel (panelOf (sizesOf words)) x y
+
+-- both corners are on the store's panel
+abbrev pub CornersOn : List ℕ → ℕ → ℕ → ℕ → ℕ → Type 0
+CornersOn words x0 y0 x1 y1 = HasPixelOn words x0 y0 × HasPixelOn words x1 y1
 
 -- the checks that ask, mark and clear share, and those that count and list share
 abbrev pub OfPixel : List ℕ → ℕ → ℕ → (Effect → Type 0) → Effect → Type 0

@@ -4,3 +4,5 @@ pub mod Walk
 pub mod Change
 pub mod Output
 pub mod Calls
+pub mod ImageTest
+pub mod Survivors

@@ -1,8 +1,9 @@
 -- What the descent finds is what ask answers.
-use Prim.Native.Nat.{ℕ, suc, _+_}
+use Prim.Native.Nat.{ℕ, suc, _+_, _≤_}
 use native.Mathlib.Omega.{arith}
 use mathlib.Core.Path.{_≡_, refl, ap, ap₂, subst, sym, _∙_}
-use mathlib.Core.Bool.{true, false}
+use mathlib.Core.Logic.{inl, inr}
+use mathlib.Core.Bool.{Bool, true, false}
 use mathlib.Core.List.{List}
 use Rattle.pktree.specs.Panel.{OnPanel}
 use Rattle.pktree.specs.PixelSet.{member}
@@ -19,9 +20,15 @@ use Rattle.store.specs.Opening.{HeaderSays, RootCannotOpen}
 use Rattle.descent.specs.declared.Located.{Located}
 use Rattle.descent.specs.Located.{LocateMeets}
 use Rattle.descent.proofs.OpenedByPixel.{opened-by-pixel, marked-exactly}
-use Rattle.query.specs.declared.ask.Asked.the-variants.{Known, Damaged}
-use Rattle.query.specs.Asking.{AskAnswer}
+use Rattle.promises.specs.Answer.{accepted, refused, yesNo}
+use Rattle.promises.specs.Effect.{effect}
+use Rattle.promises.specs.Calls.{Asks}
+use Rattle.promises.proofs.SpoiledRoot.{spoiled-shut}
 use Rattle.pktree.specs.Elements.{unlabelled}
+
+yes-no-to : (marked : Bool) → yesNo marked ≤ 1
+yes-no-to true = omega arith
+yes-no-to false = omega arith
 
 module _ (words : List ℕ) (code : ℕ) (sizes : Sizes) (layout : Layout) (slots places : List ℕ) (r : Located) (usable : UsableStore words) (sizes-are : sizes ≡ sizesOf words) (laid : LaidOut sizes layout)
     (on : OnPanel (panelOf sizes) code) (m : LocateMeets words layout (sizes .order) code slots places r) where
@@ -36,26 +43,26 @@ module _ (words : List ℕ) (code : ℕ) (sizes : Sizes) (layout : Layout) (slot
   shut h = m .closed (λ s. h (subst (λ (l : ℕ). HeaderSays (slotPart (slotWidth (sizesOf words .k)) words 0) l 0 (countWord (slotPart (slotWidth (sizesOf words .k)) words 0))) order-is
       (subst (λ (w : ℕ). HeaderSays (slotPart w words 0) (sizes .order) 0 (countWord (slotPart w words 0))) (ap (λ (l : Layout). l .width) layout-is) s)))
 
-  pub asked-known : r .damaged ≡ false → AskAnswer words code (Known (r .marked) (r .depth + 1))
+  pub asked-known : r .damaged ≡ false → Asks words code (effect (accepted (yesNo (r .marked)) (r .depth + 1)) words words)
   asked-known ok =
       record {
-        bounds = omega (arith, m .bounds ok .deep, m .bounds ok .level-from, order-is);
+        ends = inl (record { accepted = refl; first-to = yes-no-to (r .marked); second-to = omega (arith, m .bounds ok .deep, m .bounds ok .level-from, order-is) });
+        spoiled = λ s. zero-is-not-one (cc (shut (spoiled-shut words usable s), ok));
         sound = λ set holds.
             let s = holds .sound in
             let l = m .sound (holds .placed) s layout-is order-is on .1 in
             let e : unlabelled (holds .placed) ≡ tree (panelOf (sizesOf words)) (member set) = s .is-tree ∙ ap (λ (t : List ℕ). tree (panelOf (sizesOf words)) (member t)) (holds .set-is) in
             let marked : member set code ≡ r .marked = ap (λ (t : List ℕ). member t code) (sym (holds .set-is)) ∙ marked-exactly s l in
             let opened : openedByPixel code (tree (panelOf (sizesOf words)) (member set)) ≡ suc (r .depth) = ap (openedByPixel code) (sym e) ∙ opened-by-pixel s l in
-            ap₂ Known (sym marked) (omega (arith, opened));
-        closed = λ h. zero-is-not-one (cc (shut h, ok));
+            record { is = ap₂ (λ (b : Bool) (n : ℕ). accepted (yesNo b) n) (sym marked) (omega (arith, opened)); same = refl };
       }
 
-  pub asked-damaged : r .damaged ≡ true → AskAnswer words code Damaged
+  pub asked-damaged : r .damaged ≡ true → Asks words code (effect (refused 13) words words)
   asked-damaged bad =
       record {
-        bounds = tt;
+        ends = inr (refl, refl);
+        spoiled = λ s. refl;
         sound = λ set holds.
             let ok = m .sound (holds .placed) (holds .sound) layout-is order-is on .0 in
             zero-is-not-one (cc (bad, ok));
-        closed = λ h. refl;
       }

@@ -6,7 +6,7 @@ use mathlib.Core.Bool.{Bool, true, false}
 use mathlib.Core.List.{List}
 use lib.ListN.{length}
 use Rattle.pktree.specs.Elements.{empty, pixel, block, unlabelled}
-use Rattle.measures.specs.Layout.{LayoutFits, moreThanSlots}
+use Rattle.measures.specs.Layout.{LayoutFits}
 use Rattle.store.specs.Placed.{Placed}
 use Rattle.store.proofs.BlockView.{ChildView}
 use Rattle.store.specs.declared.elements.Element.{Element}
@@ -14,12 +14,12 @@ use Rattle.store.specs.declared.elements.Element.the-variants.{Block}
 use Rattle.store.specs.declared.opening.Opening.{Opening}
 use Rattle.store.specs.declared.opening.Opening.the-variants.{Damaged}
 use Rattle.walks.specs.Entered.{Entered}
-use Rattle.walks.proofs.Walks.{Walk, ElementWalked, InLoop, walked-child, none-entered, loop-inside, loop-open}
+use Rattle.walks.proofs.Walks.{Walk, ElementWalked, InLoop, never-barred, walked-child, loop-inside, loop-open}
 use Rattle.query.specs.declared.count.RangeQuery.{RangeQuery}
 use Rattle.query.specs.declared.count.Sum.{Sum}
 use Rattle.query.specs.declared.window.Corners.{Corners}
 use Rattle.query.specs.Corners.{windowBetween, PixelTested, BlockTested}
-use Rattle.query.specs.Counting.{Counts, BlockCounted, PixelCounted}
+use Rattle.query.specs.Counting.{Counts, tooMany, BlockCounted, PixelCounted}
 use Rattle.query.proofs.WindowParts.{found-in-join, opened-join}
 use Rattle.query.proofs.SeenParts.{pixel-outside, pixel-inside, child-skipped, child-opened}
 
@@ -82,18 +82,22 @@ module _ {range : RangeQuery} {words : List ℕ} {element : Element} {level n m 
       walked-child e (λ k at fs low child. opened-counts tested shares low child (meets .inside .right k fs (child .below) (child .view)))
 
 module _ {range : RangeQuery} {words : List ℕ} {above slot level code found opened : ℕ} where
-  pub count-full : {n : ℕ} → n ≡ opened → range .layout .slots ≤ n → LayoutFits (range .layout) words
-      → BlockCounted range words above slot level code found opened (record { found = 0; opened = moreThanSlots })
-  count-full is full fits =
-      record {
+  -- as many blocks were opened as there are slots
+  pub count-full : {n : ℕ} {r : Sum} → n ≡ opened → range .layout .slots ≤ n → r ≡ tooMany → LayoutFits (range .layout) words
+      → BlockCounted range words above slot level code found opened r
+  count-full same full is fits =
+      rw is (record {
         inside = record { right = λ k es low view. record { says = λ ordered few room. absurd (omega arith) } };
         closed = λ shut. omega (arith, fits .within .slots-to);
-      }
+      })
 
-  pub count-barred : {o : Opening} → o ≡ Damaged → Entered (range .layout) words above slot level code o → LayoutFits (range .layout) words
-      → BlockCounted range words above slot level code found opened (record { found = 0; opened = moreThanSlots })
-  count-barred e entered fits =
-      record { inside = none-entered e entered fits; closed = λ shut. omega (arith, fits .within .slots-to) }
+  pub count-barred : {o : Opening} {r : Sum} → o ≡ Damaged → r ≡ tooMany → Entered (range .layout) words above slot level code o → LayoutFits (range .layout) words
+      → BlockCounted range words above slot level code found opened r
+  count-barred e is entered fits =
+      rw is (record {
+        inside = record { right = λ k es low view. absurd (never-barred e entered fits low view) };
+        closed = λ shut. omega (arith, fits .within .slots-to);
+      })
 
   pub count-whole : {count i n m : ℕ} {part : List ℕ} → InLoop (Counts range) (range .layout) words above slot level code count part i (found, opened + 1) (n, m) → count ≤ i
       → BlockCounted range words above slot level code found opened (record { found = n; opened = m })

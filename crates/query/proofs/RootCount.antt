@@ -1,7 +1,8 @@
 -- What the walk from the root answers is count's answer.
 use Prim.Native.Nat.{ℕ, _≤_}
 use native.Mathlib.Omega.{arith}
-use mathlib.Core.Path.{_≡_, refl, ap, ap₂, subst, subst₂, sym, _∙_}
+use mathlib.Core.Path.{_≡_, refl, ap, ap₂, subst, subst₂, _∙_}
+use mathlib.Core.Logic.{inl, inr}
 use mathlib.Core.List.{List}
 use lib.ListN.{length}
 use Rattle.pktree.specs.PixelSet.{member}
@@ -16,13 +17,19 @@ use Rattle.measures.specs.declared.sizes.Layout.{Layout}
 use Rattle.measures.proofs.Usable.{layout-said}
 use Rattle.query.specs.declared.count.RangeQuery.{RangeQuery}
 use Rattle.query.specs.declared.count.Sum.{Sum}
-use Rattle.query.specs.declared.count.Counted.{Counted}
-use Rattle.query.specs.declared.count.Counted.the-variants.{Seen, Damaged}
+use Rattle.answers.specs.declared.Refusal.{Refusal}
+use Rattle.promises.specs.Answer.{accepted, refused}
+use Rattle.promises.specs.Effect.{effect}
+use Rattle.promises.specs.Calls as calls
+use Rattle.promises.proofs.SpoiledRoot.{spoiled-shut}
+use Rattle.answers.specs.declared.Counting.{Counting}
+use Rattle.answers.specs.declared.Counting.the-variants.{Found, Refused}
+use Rattle.answers.specs.Answer.{numberOf, countAnswer}
 use Rattle.query.specs.declared.window.Window.{Window}
 use Rattle.query.specs.declared.window.Corners.{Corners}
 use Rattle.query.specs.Corners.{windowBetween, windowOf, CornersOf, Ordered}
-use Rattle.query.specs.Counting.{BeginsOnPanel, BlockCounted, SumCase, SumWithin, CountAnswer}
-use Rattle.query.proofs.WholeTree.{WholeTree, whole-tree}
+use Rattle.query.specs.Counting.{BeginsOnPanel, BlockCounted, SumCase, SumWithin, CanCount}
+use Rattle.query.proofs.WholeTree.{whole-tree}
 
 -- as the code makes it
 abbrev pub rangeOf : Layout → Corners → RangeQuery
@@ -44,25 +51,27 @@ module _ {words : List ℕ} {corners : Corners} {sum : Sum} (usable : UsableStor
       let a = meets .inside .right (sizesOf words .k) es (omega (arith, t .view .level-to)) (t .view) .says ordered (omega (arith, t .few-found, usable .valid .most-to)) (omega (arith, t .few-opened)) in
       (omega (arith, a .0, n), omega (arith, a .1, t .all-opened), omega (arith, a .0, t .few-found), omega (arith, a .1, t .few-opened))
 
-  root-counted : (r : Counted) → SumCase (sizesOf words .most) (layoutOf (sizesOf words)) sum r → CountAnswer words (windowBetween corners) r
-  root-counted (Seen f o) h =
-      record {
-        bounds = record { found-to = h .2; opened-to = h .3 };
-        sound = λ set holds ordered on. let s = sum-is holds ordered on in ap₂ Seen (h .0 ∙ s .0) (h .1 ∙ s .1);
-        closed = λ shut. absurd (omega (arith, h .1, h .3, meets .closed shut));
-      }
-  root-counted Damaged h =
-      record {
-        bounds = tt;
-        sound = λ set holds ordered on. let s = sum-is holds ordered on in absurd (omega (arith, h (s .2), s .3));
-        closed = λ shut. refl;
-      }
+  module _ (ordered : Ordered (windowBetween corners)) (on : BeginsOnPanel (panelOf (sizesOf words)) (windowBetween corners)) where
+    root-counted : (r : Counting) → SumCase (sizesOf words .most) (layoutOf (sizesOf words)) sum r → calls.Counts words (windowBetween corners) (effect (countAnswer r) words words)
+    root-counted (Found f o) h =
+        record {
+          ends = inl (record { accepted = refl; first-to = h .2; second-to = h .3 });
+          spoiled = λ s. absurd (omega (arith, h .1, h .3, meets .closed (spoiled-shut words usable s)));
+          sound = λ set holds. let s = sum-is holds ordered on in record { is = ap₂ accepted (h .0 ∙ s .0) (h .1 ∙ s .1); same = refl };
+        }
+    root-counted (Refused refusal) h =
+        let is = ap (λ (x : Refusal). refused (numberOf x)) (h .0) in
+        record {
+          ends = inr (is, refl);
+          spoiled = λ s. is;
+          sound = λ set holds. let s = sum-is holds ordered on in absurd (omega (arith, h .1 (s .2), s .3));
+        }
 
 -- of the call's sizes and window
-pub count-answered : {words : List ℕ} {sizes : Sizes} {layout : Layout} {window : Window} {corners : Corners} {sum : Sum} {r : Counted} → UsableStore words → sizes ≡ sizesOf words
+pub count-answered : {words : List ℕ} {sizes : Sizes} {layout : Layout} {window : Window} {corners : Corners} {sum : Sum} {r : Counting} → CanCount words sizes window
     → LaidOut sizes layout → CornersOf window corners → BlockCounted (rangeOf layout corners) words levelAboveRoot 0 (sizes .order) 0 0 0 sum → SumWithin (sizes .most) layout sum r
-    → CountAnswer words (windowOf window) r
-count-answered {words} {corners = corners} {sum = sum} {r = r} usable said laid same meets within =
-    subst (λ (w : tree.Window). CountAnswer words w r) (same .same-window)
-    (root-counted usable (of-root words (λ l z. BlockCounted (rangeOf l corners) words levelAboveRoot 0 (z .order) 0 0 0 sum) said laid meets) r
-    (of-root words (λ l z. SumWithin (z .most) l sum r) said laid within .case))
+    → calls.Counts words (windowOf window) (effect (countAnswer r) words words)
+count-answered {words} {corners = corners} {sum = sum} {r = r} can laid same meets within =
+    subst (λ (w : tree.Window). Ordered w → BeginsOnPanel (panelOf (sizesOf words)) w → calls.Counts words w (effect (countAnswer r) words words)) (same .same-window)
+    (λ ordered on. root-counted (can .usable) (of-root words (λ l z. BlockCounted (rangeOf l corners) words levelAboveRoot 0 (z .order) 0 0 0 sum) (can .sizes-are) laid meets) ordered on r
+    (of-root words (λ l z. SumWithin (z .most) l sum r) (can .sizes-are) laid within .case)) (can .ordered) (can .begins)

@@ -1,13 +1,17 @@
 ghost use mathlib.Core.Path.{_≡_};
-ghost use Rattle.query.specs.Counting.{PixelCounted, BlockCounted, SumWithin, CountAnswer};
-ghost use Rattle.query.specs.Corners.{windowOf, HasCodes};
+ghost use Rattle.query.specs.Counting.{tooMany, PixelCounted, BlockCounted, SumWithin, CanCount};
+ghost use Rattle.promises.specs.Effect.{effect};
+ghost use Rattle.promises.specs.Calls as calls;
+ghost use Rattle.answers.specs.Answer.{countAnswer};
+ghost use Rattle.query.specs.Corners.{windowOf};
 ghost use Rattle.measures.specs.Layout.{LayoutFits};
-ghost use Rattle.measures.specs.Sizes.{UsableStore, sizesOf};
 use crate::window::Corners;
 use crate::window::Window;
 use crate::window::corners_of;
 use crate::window::has_pixel;
 use crate::window::meets;
+use answers::Counting;
+use answers::Refusal;
 use measures::sizes::Layout;
 use measures::sizes::Sizes;
 use measures::sizes::layout_of;
@@ -33,11 +37,6 @@ pub struct Sum {
     pub opened: u32,
 }
 
-pub enum Counted {
-    Seen { found: u32, opened: u32 },
-    Damaged,
-}
-
 // More pixels than a word counts are met on damaged words only.
 fn count_pixel(corners: Corners, code: u32, found: u32) -> u32
     ensures { λ r. ⌜ PixelCounted corners code found r ⌝ }
@@ -48,7 +47,17 @@ fn count_pixel(corners: Corners, code: u32, found: u32) -> u32
     found
 }
 
-// The block in this slot, an element of a block of level `above`, is opened: `found` pixels were found and `opened` blocks opened before it.
+// What a walk answers on damaged words: more blocks than there are slots.
+pub fn too_many() -> Sum
+    ensures { λ r. ⌜ r ≡ tooMany ⌝ }
+{
+    Sum {
+        found: 0,
+        opened: MORE_THAN_SLOTS,
+    }
+}
+
+// The block in this slot, an element of a block of level `above`, is opened: so many pixels were found and blocks opened before it.
 fn count_block(
     store: &[u32],
     range: RangeQuery,
@@ -56,69 +65,56 @@ fn count_block(
     slot: u32,
     level: u32,
     code: u32,
-    found: u32,
-    opened: u32,
+    pixels: u32,
+    blocks: u32,
 ) -> Sum
     requires { ⌜ LayoutFits (range .layout) (now store) ⌝ }
-    ensures { λ r. ⌜ BlockCounted range (now (store .entry)) above slot level code found opened r ⌝ }
+    ensures { λ r. ⌜ BlockCounted range (now (store .entry)) above slot level code pixels blocks r ⌝ }
 {
-    if range.layout.slots <= wide(opened) {
-        return Sum {
-            found: 0,
-            opened: MORE_THAN_SLOTS,
-        };
+    if range.layout.slots <= wide(blocks) {
+        return too_many();
     }
     let Opening::Elements(count) = enter(store, range.layout, above, slot, level, code) else {
-        return Sum {
-            found: 0,
-            opened: MORE_THAN_SLOTS,
-        };
+        return too_many();
     };
     let part = part_of(store, range.layout, slot);
-    let mut pixels = found;
-    let mut blocks = opened + 1;
+    let mut found = pixels;
+    let mut opened = blocks + 1;
     for i in 0..count {
         match element_at(part, i) {
-            Element::Pixel(c) => pixels = count_pixel(range.corners, c, pixels),
-            Element::Block {
-                slot: s,
-                level: inner,
-                code: c,
-            } => {
+            Element::Pixel(c) => found = count_pixel(range.corners, c, found),
+            Element::Block(s, inner, c) => {
                 if meets(range.corners, inner, c) {
-                    let sum = count_block(store, range, level, s, inner, c, pixels, blocks);
-                    pixels = sum.found;
-                    blocks = sum.opened;
+                    let sum = count_block(store, range, level, s, inner, c, found, opened);
+                    found = sum.found;
+                    opened = sum.opened;
                 }
             }
         }
     }
-    Sum {
-        found: pixels,
-        opened: blocks,
-    }
+    Sum { found, opened }
 }
 
 // Never more pixels than 01's N, nor more blocks than there are slots, but on damaged words.
-pub fn within(most: u32, layout: Layout, sum: Sum) -> Counted
+pub fn within(most: u32, layout: Layout, sum: Sum) -> Counting
     ensures { λ r. ⌜ SumWithin most layout sum r ⌝ }
 {
     if most < sum.found {
-        return Counted::Damaged;
+        return Counting::Refused(Refusal::StoreDamaged);
     }
     if layout.slots < wide(sum.opened) {
-        return Counted::Damaged;
+        return Counting::Refused(Refusal::StoreDamaged);
     }
-    Counted::Seen {
+    Counting::Found {
         found: sum.found,
         opened: sum.opened,
     }
 }
 
 // 01's count, where refusals 3, 4 and 8 do not apply.
-pub fn count(store: &[u32], sizes: Sizes, window: Window) -> Counted
-    requires { ⌜ UsableStore (now store) × (sizes ≡ sizesOf (now store)) × HasCodes window ⌝ }
-    ensures { λ r. ⌜ CountAnswer (now (store .entry)) (windowOf window) r ⌝ }
+pub fn count(store: &[u32], sizes: Sizes, window: Window) -> Counting
+    requires { ⌜ CanCount (now store) sizes window ⌝ }
+    ensures { λ r. ⌜ calls.Counts (now (store .entry)) (windowOf window) (effect (countAnswer r) (now (store .entry)) (now (store .entry))) ⌝ }
 {
     let layout = layout_of(sizes);
     let range = RangeQuery {

@@ -1,5 +1,2 @@
 pub mod Refusals
 pub mod Makes
-pub mod Changes
-pub mod Walks
-pub mod Loads

@@ -1,32 +1,91 @@
 -- The checks that calls share, from what judges them.
-use Prim.Native.Nat.{ℕ}
-use mathlib.Core.Path.{_≡_, ap}
+use Prim.Native.Nat.{ℕ, _^_, _≤_}
+use native.Mathlib.Omega.{arith}
+use mathlib.Core.Path.{_≡_, refl, ap, subst}
 use mathlib.Core.Logic.{inl, inr}
 use mathlib.Core.List.{List}
+use lib.Pow.{pow-mono}
+use Rattle.morton.specs.Code.{codeOf}
+use Rattle.pktree.specs.Panel.{OnPanel}
 use Rattle.measures.specs.declared.sizes.Sizes.{Sizes}
-use Rattle.refusals.specs.declared.Refusal.{Refusal}
-use Rattle.refusals.specs.Judged.{PixelGiven, PixelRefused, WindowGiven, WindowRefused}
+use Rattle.measures.specs.declared.sizes.SizesRead.{SizesRead}
+use Rattle.measures.specs.declared.sizes.SizesRead.the-variants.{Usable, Unusable}
+use Rattle.measures.specs.Sizes.{UsableStore, panelOf, sizesOf, ReadSizes}
+use Rattle.answers.specs.declared.Refusal.{Refusal}
+use Rattle.answers.specs.declared.judging.PixelJudged.{PixelJudged}
+use Rattle.answers.specs.declared.judging.PixelJudged.the-variants as pixel
+use Rattle.answers.specs.declared.judging.WindowJudged.{WindowJudged}
+use Rattle.answers.specs.declared.judging.WindowJudged.the-variants as window
+use Rattle.answers.specs.Judged.{PixelGiven, PixelRefused, JudgedPixel, WindowGiven, WindowRefused, JudgedWindow}
+use Rattle.query.specs.Counting.{CanCount}
 use Rattle.promises.specs.Answer.{refused}
-use Rattle.register.specs.Answer.{numberOf}
-use Rattle.promises.specs.Effect.{Effect, effect, Returns, passed, stopped, OfPixel, OfWindow}
+use Rattle.promises.specs.Effect.{Effect, effect, Returns, _else_then_, passed, stopped, OfPixel, OfWindow}
+use Rattle.answers.specs.Answer.{numberOf}
 
-module _ {before after : List ℕ} (same : after ≡ before) where
-  pub returns-number : {r s : Refusal} → r ≡ s → Returns (refused (numberOf s)) (effect (refused (numberOf r)) before after)
-  returns-number e = record { is = ap (λ (t : Refusal). refused (numberOf t)) e; same = same }
+-- a refusal before anything is written
+returns-number : {words : List ℕ} {r s : Refusal} → r ≡ s → Returns (refused (numberOf s)) (effect (refused (numberOf r)) words words)
+returns-number e = record { is = ap (λ (t : Refusal). refused (numberOf t)) e; same = refl }
 
-  module _ {rest : Effect → Type 0} where
-    pub pixel-refused : {words : List ℕ} {x y : ℕ} (r : Refusal) → PixelRefused words x y r → OfPixel words x y rest (effect (refused (numberOf r)) before after)
-    pixel-refused r (inl (e, fails)) = stopped fails (returns-number e)
-    pixel-refused r (inr (e, u, off)) = passed u (stopped off (returns-number e))
+-- 3 alone
+module _ (words : List ℕ) {read : SizesRead} (r : ReadSizes words read) {rest : Effect → Type 0} where
+  pub not-usable : read ≡ Unusable → (lent : List ℕ) → (UsableStore words else refused 3 then rest) (effect (refused 3) lent lent)
+  not-usable e lent = stopped (rw e at r) (record { is = refl; same = refl })
 
-    pub window-refused : {words : List ℕ} {x0 y0 x1 y1 : ℕ} (r : Refusal) → WindowRefused words x0 y0 x1 y1 r → OfWindow words x0 y0 x1 y1 rest (effect (refused (numberOf r)) before after)
-    window-refused r (inl (e, fails)) = stopped fails (returns-number e)
-    window-refused r (inr (inl (e, u, off))) = passed u (stopped off (returns-number e))
-    window-refused r (inr (inr (e, u, on, fails))) = passed u (passed on (stopped fails (returns-number e)))
+module _ (words : List ℕ) {read : SizesRead} {sizes : Sizes} (is : read ≡ Usable sizes) (r : ReadSizes words read) where
+  pub is-usable : UsableStore words × (sizes ≡ sizesOf words)
+  is-usable = let p = rw is at r in (p .1, p .0)
 
-module _ {rest : Effect → Type 0} {e : Effect} {words : List ℕ} {sizes : Sizes} where
-  pub pixel-given : {x y code : ℕ} → PixelGiven words x y sizes code → rest e → OfPixel words x y rest e
-  pixel-given p r = passed (p .usable) (passed (p .on-panel) r)
+  pub usable-then : {rest : Effect → Type 0} {e : Effect} → rest e → (UsableStore words else refused 3 then rest) e
+  usable-then r = passed (is-usable .0) r
 
-  pub window-given : {x0 y0 x1 y1 : ℕ} → WindowGiven words x0 y0 x1 y1 sizes → rest e → OfWindow words x0 y0 x1 y1 rest e
-  window-given p r = passed (p .usable) (passed (p .on-panel) (passed (p .ordered) r))
+-- 3 and 4
+module _ (words : List ℕ) (x y : ℕ) {judged : PixelJudged} where
+  pub pixel-refused : {refusal : Refusal} {rest : Effect → Type 0} → judged ≡ pixel.Refused refusal → JudgedPixel words x y judged → (lent : List ℕ)
+      → OfPixel words x y rest (effect (refused (numberOf refusal)) lent lent)
+  pixel-refused {refusal} {rest} is j lent = go (rw is at j)
+    where
+      go : PixelRefused words x y refusal → OfPixel words x y rest (effect (refused (numberOf refusal)) lent lent)
+      go (inl (e, fails)) = stopped fails (returns-number e)
+      go (inr (e, u, off)) = passed u (stopped off (returns-number e))
+
+  module _ {sizes : Sizes} {code : ℕ} (is : judged ≡ pixel.Pixel sizes code) (j : JudgedPixel words x y judged) where
+    given : PixelGiven words x y sizes code
+    given = rw is at j
+
+    pub on-panel : (UsableStore words × (sizes ≡ sizesOf words)) × OnPanel (panelOf sizes) code
+    on-panel = ((given .usable, given .sizes-are), given .code-on-panel)
+
+    pub pixel-then : (rest : ℕ → Effect → Type 0) {e : Effect} → rest code e → OfPixel words x y (rest (codeOf x y)) e
+    pixel-then rest {e} r = passed (given .usable) (passed (given .on-panel) (subst (λ (c : ℕ). rest c e) (given .code-is) r))
+
+-- 3, 4 and 8
+module _ (words : List ℕ) (x0 y0 x1 y1 : ℕ) {judged : WindowJudged} where
+  pub window-refused : {refusal : Refusal} {rest : Effect → Type 0} → judged ≡ window.Refused refusal → JudgedWindow words x0 y0 x1 y1 judged → (lent : List ℕ)
+      → OfWindow words x0 y0 x1 y1 rest (effect (refused (numberOf refusal)) lent lent)
+  window-refused {refusal} {rest} is j lent = go (rw is at j)
+    where
+      go : WindowRefused words x0 y0 x1 y1 refusal → OfWindow words x0 y0 x1 y1 rest (effect (refused (numberOf refusal)) lent lent)
+      go (inl (e, fails)) = stopped fails (returns-number e)
+      go (inr (inl (e, u, off))) = passed u (stopped off (returns-number e))
+      go (inr (inr (e, u, on, fails))) = passed u (passed on (stopped fails (returns-number e)))
+
+  module _ {sizes : Sizes} (is : judged ≡ window.Window sizes) (j : JudgedWindow words x0 y0 x1 y1 judged) where
+    window-given : WindowGiven words x0 y0 x1 y1 sizes
+    window-given = rw is at j
+
+    -- corners on the panel have codes
+    pub can-count : CanCount words sizes (record { x0 = x0; y0 = y0; x1 = x1; y1 = y1 })
+    can-count =
+        let p = window-given in
+        let side : 2 ^ sizesOf words .order ≤ 2 ^ 16 = pow-mono (p .usable .valid .panel .order-to) in
+        let on = p .on-panel in
+        record {
+          usable = p .usable;
+          sizes-are = p .sizes-are;
+          codes = record { x0-below = omega (arith, on .0 .0); y0-below = omega (arith, on .0 .1); x1-below = omega (arith, on .1 .0); y1-below = omega (arith, on .1 .1) };
+          ordered = record { x-ordered = p .ordered .0; y-ordered = p .ordered .1 };
+          begins = p .on-panel .0;
+        }
+
+    pub window-then : {rest : Effect → Type 0} {e : Effect} → rest e → OfWindow words x0 y0 x1 y1 rest e
+    window-then r = passed (window-given .usable) (passed (window-given .on-panel) (passed (window-given .ordered) r))

@@ -1,10 +1,10 @@
 // The claim about two lists, at work: a list of calls drawn at random and the list of its survivors, marked in falling order, are replayed on two
 // registers; the two images must be the same bytes, and one pixel less another image.
 use crate::drawn::word_drawn;
+use answers::Listing;
+use answers::Saving;
+use answers::refusal_of;
 use measures::slots::wide;
-use register::Listing;
-use register::Saving;
-use register::refusal_of;
 
 mod drawn;
 mod lent;

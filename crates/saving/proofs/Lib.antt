@@ -1,4 +1,3 @@
-pub mod EntryWrites
 pub mod Saves
 pub mod SavedImage
 pub mod Tallies

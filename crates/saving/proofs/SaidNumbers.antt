@@ -18,8 +18,7 @@ use Rattle.store.specs.Opening.{CannotOpen}
 use Rattle.walks.proofs.RootWalk.{heldTree, root-walked}
 use Rattle.store.proofs.SoundView.{sound-view}
 use Rattle.saving.specs.declared.numbers.Numbers.the-variants.{Said, Damaged}
-use Rattle.saving.specs.Numbers.{NumbersAnswer}
-use Rattle.saving.specs.Numbers.{BlockTallied}
+use Rattle.saving.specs.Numbers.{NumbersAnswer, BlockTallied}
 use Rattle.saving.proofs.SavedImage.{tree-of-held}
 use Rattle.pktree.specs.Elements.{unlabelled}
 

@@ -2,6 +2,7 @@
 use Prim.Native.Nat.{ℕ, _+_, _*_, _≤_, _<_}
 use native.Mathlib.Omega.{arith}
 use mathlib.Core.Path.{_≡_, refl, ap, ap₂, subst₂, _∙_}
+use mathlib.Core.Logic.{inl, inr}
 use mathlib.Core.List.{List, _++_, append-nil}
 use lib.ListN.{length, take, drop, length-append, length-drop}
 use lib.Seq.{length-take-le, drop-at, drop-length}
@@ -13,16 +14,21 @@ use Rattle.pktree.proofs.Absurd.{zero-is-not-one}
 use Rattle.measures.specs.declared.sizes.Sizes.{Sizes}
 use Rattle.measures.specs.declared.sizes.Layout.{Layout}
 use Rattle.measures.specs.Layout.{LaidOut, levelAboveRoot}
-use Rattle.store.specs.Opening.{RootCannotOpen}
 use Rattle.measures.specs.Sizes.{panelOf, UsableStore, sizesOf}
 use Rattle.measures.proofs.Usable.{layout-fits}
 use Rattle.store.specs.Sound.{Holds}
+use Rattle.promises.specs.Answer.{accepted, refused, short}
+use Rattle.promises.specs.Effect.{effect, passed, stopped}
+use Rattle.promises.specs.Walk.{Spoiled}
+use Rattle.promises.specs.Calls.{Saves}
+use Rattle.promises.proofs.SpoiledRoot.{spoiled-shut}
 use Rattle.saving.specs.declared.numbers.Numbers.{Numbers}
 use Rattle.saving.specs.declared.numbers.Numbers.the-variants.{Said, Damaged}
-use Rattle.saving.specs.declared.Imaged.the-variants.{Whole, TooShort, Damaged}
 use Rattle.saving.specs.Numbers.{NumbersAnswer}
-use Rattle.saving.specs.Saving.{putEntries, CanSave, HeaderPut, ImageWritten, FrontWritten, mostBytes, SaveAnswer}
-use Rattle.saving.proofs.EntryWrites.{length-headed}
+use Rattle.image.specs.Held.{mostBytes}
+use Rattle.image.specs.Writing.{putEntries, HeaderPut}
+use Rattle.saving.specs.Saving.{CanSave, ImageWritten, FrontWritten}
+use Rattle.image.proofs.EntryWrites.{length-headed}
 use Rattle.saving.proofs.SavedImage.{entries-counted, image-put}
 use Rattle.walks.proofs.RootWalk.{heldTree, root-walked}
 
@@ -33,16 +39,8 @@ can-save usable said laid long = record { fits = layout-fits _ _ _ usable said l
 
 module _ {words : List ℕ} {told : Numbers} (answer : NumbersAnswer words told) where
   -- a sound store says its numbers
-  pub no-numbers : {before : List ℕ} → told ≡ Damaged → SaveAnswer words before before Damaged
-  no-numbers e =
-      record {
-        bounds = tt;
-        sound = λ set holds. zero-is-not-one (cc (answer .sound set holds));
-        short = λ needed f. zero-is-not-one (cc);
-        rest = λ needed f. refl;
-        long = refl;
-        closed = λ shut. refl;
-      }
+  pub no-numbers : {before : List ℕ} → told ≡ Damaged → Saves words (effect (refused 13) before before)
+  no-numbers e = record { ends = inr (refl, refl); spoiled = λ s. refl; sound = λ set holds. zero-is-not-one (cc (answer .sound set holds)) }
 
   -- n and m are what was said; found and opened are the same numbers, widened
   module _ {n m found opened : ℕ} (numbers-are : told ≡ Said n m) (found-is : found ≡ n) (opened-is : opened ≡ m) where
@@ -55,24 +53,21 @@ module _ {words : List ℕ} {told : Numbers} (answer : NumbersAnswer words told)
         let o : m ≡ length (blocks (heldTree words set)) = cc in
         omega (arith, entries-counted holds, image-length (panelOf (sizesOf words)) set)
 
-    -- a root that cannot be opened has no numbers
-    not-closed : RootCannotOpen words → ⊥
-    not-closed shut = zero-is-not-one (cc (answer .closed shut))
+    -- a spoiled store has no numbers
+    not-spoiled : UsableStore words → Spoiled words → ⊥
+    not-spoiled usable s = zero-is-not-one (cc (answer .closed (spoiled-shut words usable s)))
 
     -- what was said is within the sizes, whatever the words are
     few-bytes : headerLength + 5 * (found + opened) ≤ mostBytes words
     few-bytes = let b = rw numbers-are at (answer .bounds) in omega (arith, b .0, b .1)
 
     -- the needed length is the image's
-    pub too-short : {before : List ℕ} → length before < headerLength + 5 * (found + opened) → SaveAnswer words before before (TooShort (headerLength + 5 * (found + opened)))
-    too-short h =
+    pub too-short : {before : List ℕ} → UsableStore words → length before < headerLength + 5 * (found + opened) → Saves words (effect (short (headerLength + 5 * (found + opened))) before before)
+    too-short usable h =
         record {
-          bounds = few-bytes;
-          sound = λ set holds. (numbers holds .2, h, refl);
-          short = λ needed f. let e : headerLength + 5 * (found + opened) ≡ needed = cc in (refl, rw e at h);
-          rest = λ needed f. refl;
-          long = refl;
-          closed = λ shut. absurd (not-closed shut);
+          ends = inl (inr (record { returns = record { is = refl; same = refl }; lacks = h; needed-to = few-bytes }));
+          spoiled = λ s. absurd (not-spoiled usable s);
+          sound = λ set holds. let n = numbers holds .2 in stopped (λ l. omega (arith, l, n)) (record { is = ap short n; same = refl });
         }
 
     module _ {sizes : Sizes} {before after : List ℕ} {r : ℕ} (said : sizes ≡ sizesOf words) (room : headerLength + 5 * (found + opened) ≤ length before)
@@ -94,16 +89,8 @@ module _ {words : List ℕ} {told : Numbers} (answer : NumbersAnswer words told)
           ap length (front .is) ∙ omega (arith, length-append (front .part) rest, length-drop (headerLength + 5 * (found + opened)) before, part-long)
 
       -- so it does not end elsewhere
-      pub not-all : (r ≡ found + opened → ⊥) → SaveAnswer words before after Damaged
-      not-all h =
-          record {
-            bounds = tt;
-            sound = λ set holds. absurd (h (all-put holds .0));
-            short = λ needed f. zero-is-not-one (cc);
-            rest = λ needed f. zero-is-not-one (cc);
-            long = same-length;
-            closed = λ shut. refl;
-          }
+      pub not-all : (r ≡ found + opened → ⊥) → Saves words (effect (refused 13) before after)
+      not-all h = record { ends = inr (refl, same-length); spoiled = λ s. refl; sound = λ set holds. absurd (h (all-put holds .0)) }
 
       -- header and entries are the image
       part-is : {set : List ℕ} → Holds words set → front .part ≡ image (panelOf (sizesOf words)) set
@@ -115,19 +102,18 @@ module _ {words : List ℕ} {told : Numbers} (answer : NumbersAnswer words told)
           image-put (panelOf (sizesOf words)) set l (w .headed) (front .part) (n + m) (omega (arith, numbers holds .1)) (omega arith) (subst₂ (λ (z : Sizes) (i : ℕ). HeaderPut l (z .order) (z .k) (n + m) i (w .headed)) said (numbers holds .0) (w .head)) (all-put holds .1)
           ∙ ap (λ (i : ℕ). bytes ++ drop i l) full ∙ ap (λ (b : List ℕ). bytes ++ b) (drop-length l) ∙ append-nil bytes
 
-      pub all-written : SaveAnswer words before after (Whole (headerLength + 5 * (found + opened)))
-      all-written =
+      pub all-written : UsableStore words → Saves words (effect (accepted (headerLength + 5 * (found + opened)) 0) before after)
+      all-written usable =
           record {
-            bounds = (few-bytes, room);
-            sound = λ set holds. (
-              numbers holds .2,
-              room,
-              front .is ∙ ap₂ (λ (p : List ℕ) (i : ℕ). p ++ drop i before) (part-is holds) (numbers holds .2),
-            );
-            short = λ needed f. zero-is-not-one (cc);
-            rest = λ needed f.
-                let e : headerLength + 5 * (found + opened) ≡ needed = cc in
-                rw (← e) (ap (drop (headerLength + 5 * (found + opened))) (front .is) ∙ drop-at (front .part) (drop (headerLength + 5 * (found + opened)) before) (headerLength + 5 * (found + opened)) part-long);
-            long = same-length;
-            closed = λ shut. absurd (not-closed shut);
+            ends = inl (inl (record {
+              accepts = record { accepted = refl; first-to = few-bytes; second-to = omega arith };
+              room = room;
+              rest = ap (drop (headerLength + 5 * (found + opened))) (front .is) ∙ drop-at (front .part) (drop (headerLength + 5 * (found + opened)) before) (headerLength + 5 * (found + opened)) part-long;
+              long = same-length;
+            }));
+            spoiled = λ s. absurd (not-spoiled usable s);
+            sound = λ set holds.
+                let n = numbers holds .2 in
+                passed (omega (arith, n))
+                (record { is = ap (λ (i : ℕ). accepted i 0) n; wrote = front .is ∙ ap₂ (λ (p : List ℕ) (i : ℕ). p ++ drop i before) (part-is holds) n });
           }

@@ -16,8 +16,8 @@ use Rattle.pktree.proofs.Unlabelled.{pixels-unlabelled}
 use Rattle.measures.specs.Sizes.{panelOf, sizesOf}
 use Rattle.store.specs.Sound.{Holds}
 use Rattle.walks.proofs.RootWalk.{heldTree}
-use Rattle.saving.specs.Saving.{putEntries, HeaderPut}
-use Rattle.saving.proofs.EntryWrites.{all-entries-land}
+use Rattle.image.specs.Writing.{putEntries, HeaderPut}
+use Rattle.image.proofs.EntryWrites.{all-entries-land}
 use Rattle.pktree.specs.Elements.{unlabelled}
 
 -- a sound store holds the tree of its own pixels

@@ -13,12 +13,13 @@ use Rattle.store.specs.declared.opening.Opening.the-variants.{Damaged}
 use Rattle.measures.specs.Layout.{LayoutFits}
 use Rattle.walks.specs.Entered.{Entered}
 use Rattle.walks.proofs.Walks.{Walk, InLoop, not-entered, loop-ends, loop-open}
-use Rattle.saving.specs.declared.Saving.{Saving}
-use Rattle.saving.specs.Saving.{putEntry, CanSave, PixelPut, EntriesPut, BlockSaved}
-use Rattle.saving.proofs.EntryWrites.{length-put-entry, put-entries-append}
+use Rattle.saving.specs.declared.ImageWalk.{ImageWalk}
+use Rattle.image.specs.Writing.{putEntry}
+use Rattle.saving.specs.Saving.{CanSave, PixelPut, EntriesPut, BlockSaved}
+use Rattle.image.proofs.EntryWrites.{length-put-entry, put-entries-append}
 
 -- entries behind others
-entries-put-join : {saving : Saving} {s t u : List ℕ × ℕ} {f g : Forest} → EntriesPut saving s f t → EntriesPut saving t g u → EntriesPut saving s (f ⧺ g) u
+entries-put-join : {saving : ImageWalk} {s t u : List ℕ × ℕ} {f g : Forest} → EntriesPut saving s f t → EntriesPut saving t g u → EntriesPut saving s (f ⧺ g) u
 entries-put-join {saving} {s} {t} {u} {f} {g} p q =
     record {
       says = λ room.
@@ -28,7 +29,7 @@ entries-put-join {saving} {s} {t} {u} {f} {g} p q =
           (omega (arith, a .0, b .0), rw (entries-join f g, put-entries-append (saving .entries) (s .1) (s .0) (entries f) (entries g), ← a .1, ← a .0) (b .1));
     }
 
-pub save-walk : {saving : Saving} → Walk (EntriesPut saving)
+pub save-walk : {saving : ImageWalk} → Walk (EntriesPut saving)
 save-walk = record { none = λ s. record { says = λ room. (omega arith, refl) }; join = entries-put-join }
 
 pub written-is : {after o : List ℕ} {r n : ℕ} → o ≡ after → n ≡ r → _≡_ {A = List ℕ × ℕ} (o, n) (after, r)
@@ -40,11 +41,11 @@ no-room h = record { long = refl; put = λ room. absurd (omega arith) }
 pub pixel-put : {n code at : ℕ} {before after : List ℕ} → after ≡ putEntry n at before 0 code → PixelPut n code before after at (at + 1)
 pixel-put {n} {code} {at} {before} e = record { long = ap length e ∙ length-put-entry n at before 0 code; put = λ room. (refl, e) }
 
-pub pixel-saved : {saving : Saving} {before after : List ℕ} {at r c : ℕ} → PixelPut (saving .entries) c before after at r → EntriesPut saving (before, at) (pixel c empty) (after, r)
+pub pixel-saved : {saving : ImageWalk} {before after : List ℕ} {at r c : ℕ} → PixelPut (saving .entries) c before after at r → EntriesPut saving (before, at) (pixel c empty) (after, r)
 pixel-saved h = record { says = λ room. h .put (omega arith) }
 
 -- a block's own entry before those of its elements
-own-entry-first : {saving : Saving} {f : Forest} {before own after : List ℕ} {level code at next : ℕ} → own ≡ putEntry (saving .entries) at before level code
+own-entry-first : {saving : ImageWalk} {f : Forest} {before own after : List ℕ} {level code at next : ℕ} → own ≡ putEntry (saving .entries) at before level code
     → EntriesPut saving (own, at + 1) f (after, next) → EntriesPut saving (before, at) (block level code f empty) (after, next)
 own-entry-first {f = f} {level = level} {code = code} {at = at} e h =
     record {
@@ -54,13 +55,16 @@ own-entry-first {f = f} {level = level} {code = code} {at = at} e h =
           (omega (arith, a .0), a .1 ∙ rw (append-nil (entries f), e, add-one at));
     }
 
+pub can-save-same : {saving : ImageWalk} {words : List ℕ} {above : ℕ} {before output : List ℕ} → CanSave saving words above before → length output ≡ length before → CanSave saving words above output
+can-save-same can long = record { fits = can .fits; above-to = can .above-to; long = rw long (can .long) }
+
 -- a block inside may be saved too
-pub save-within : {saving : Saving} {words : List ℕ} {above slot level code count i : ℕ} {part before output : List ℕ} {s t : List ℕ × ℕ}
+pub save-within : {saving : ImageWalk} {words : List ℕ} {above slot level code count i : ℕ} {part before output : List ℕ} {s t : List ℕ × ℕ}
     → InLoop (EntriesPut saving) (saving .layout) words above slot level code count part i s t → CanSave saving words above before → length output ≡ length before
     → CanSave saving words level output
-save-within to can long = record { fits = can .fits; above-to = omega (arith, to .slot-entered .level-below, can .above-to); long = omega (arith, can .long) }
+save-within to can long = record { fits = can .fits; above-to = omega (arith, to .slot-entered .level-below, can .above-to); long = rw long (can .long) }
 
-module _ {saving : Saving} {words : List ℕ} {above slot level code : ℕ} {before : List ℕ} {at : ℕ} where
+module _ {saving : ImageWalk} {words : List ℕ} {above slot level code : ℕ} {before : List ℕ} {at : ℕ} where
   -- even the own entry has no room
   pub save-full : saving .entries ≤ at → BlockSaved saving words above slot level code before before at (saving .entries + 1)
   save-full full =

@@ -2,11 +2,20 @@
 ghost use Prim.Native.Nat.{_+_, _*_, _≤_, _<_};
 ghost use mathlib.Core.Path.{_≡_};
 ghost use lib.ListN.{length};
-ghost use Rattle.saving.specs.Saving.{putFour, putEntry, PixelPut, CanSave, BlockSaved, HeaderPut, ImageWritten, FrontWritten, SaveAnswer};
+ghost use Rattle.saving.specs.Saving.{PixelPut, CanSave, BlockSaved, ImageWritten, FrontWritten};
+ghost use Rattle.promises.specs.Effect.{effect};
+ghost use Rattle.promises.specs.Calls.{Saves};
+ghost use Rattle.answers.specs.Answer.{saveAnswer};
+use answers::Saving;
 ghost use Rattle.measures.specs.Sizes.{UsableStore, sizesOf};
 ghost use Rattle.pktree.specs.Image.{headerLength};
 use crate::numbers::Numbers;
 use crate::numbers::read_numbers;
+use answers::Refusal;
+use image::parts::ENTRY_BYTES;
+use image::parts::HEADER_BYTES;
+use image::writing::put_entry;
+use image::writing::put_header;
 use measures::sizes::Layout;
 use measures::sizes::Sizes;
 use measures::sizes::layout_of;
@@ -21,31 +30,8 @@ use walks::part_of;
 
 pub mod numbers;
 
-// 01: m, k, e and n come first.
-const HEADER_LENGTH: usize = 10;
-
-// Four bytes, the low one first.
-fn put_four(output: &mut [u8], at: usize, value: u32)
-    requires { ⌜ at + 4 ≤ length (now output) ⌝ }
-    ensures { λ _. ⌜ now (output .exit) ≡ putFour (now (output .entry)) at value ⌝ }
-{
-    output[at] = (value % 256) as u8;
-    output[at + 1] = (value / 256 % 256) as u8;
-    output[at + 2] = (value / 65536 % 256) as u8;
-    output[at + 3] = (value / 16777216 % 256) as u8;
-}
-
-// Entry `at` of `entries`: its code in the first array, its level in the second.
-fn put_entry(output: &mut [u8], entries: usize, at: usize, level: u32, code: u32)
-    requires { ⌜ (headerLength + 5 * entries ≤ length (now output)) × ((at < entries) × (level ≤ 16)) ⌝ }
-    ensures { λ _. ⌜ now (output .exit) ≡ putEntry entries at (now (output .entry)) level code ⌝ }
-{
-    put_four(output, HEADER_LENGTH + 4 * at, code);
-    output[HEADER_LENGTH + 4 * entries + at] = (level % 256) as u8;
-}
-
 // Where the slots lie, and how many entries the image has.
-pub struct Saving {
+pub struct ImageWalk {
     pub layout: Layout,
     pub entries: usize,
 }
@@ -65,7 +51,7 @@ fn save_pixel(output: &mut [u8], entries: usize, at: usize, code: u32) -> usize
 // The entries of the block in this slot, an element of a block of level `above`, from index `at` on: its own, then those of its elements.
 fn save_block(
     store: &[u32],
-    saving: Saving,
+    saving: ImageWalk,
     above: u32,
     slot: u32,
     level: u32,
@@ -89,25 +75,12 @@ fn save_block(
     for i in 0..count {
         match element_at(part, i) {
             Element::Pixel(pixel) => next = save_pixel(output, entries, next, pixel),
-            Element::Block {
-                slot: s,
-                level: inner,
-                code: c,
-            } => next = save_block(store, saving, level, s, inner, c, output, next),
+            Element::Block(s, inner, c) => {
+                next = save_block(store, saving, level, s, inner, c, output, next);
+            }
         }
     }
     next
-}
-
-// The sizes at the head of an image.
-fn put_header(output: &mut [u8], order: u32, k: u32, entries: u32, pixels: u32)
-    requires { ⌜ (headerLength ≤ length (now output)) × ((order ≤ 16) × (k ≤ 16)) ⌝ }
-    ensures { λ _. ⌜ HeaderPut (now (output .entry)) order k entries pixels (now (output .exit)) ⌝ }
-{
-    output[0] = (order % 256) as u8;
-    output[1] = (k % 256) as u8;
-    put_four(output, 2, entries);
-    put_four(output, 6, pixels);
 }
 
 // The header and the entries, into an output of just the image's length; the index past the last entry.
@@ -117,7 +90,7 @@ fn write_image(store: &[u32], sizes: Sizes, pixels: u32, blocks: u32, output: &m
     ensures { λ r. ⌜ ImageWritten sizes pixels blocks (now (store .entry)) (now (output .entry)) (now (output .exit)) r ⌝ }
 {
     put_header(output, sizes.order, sizes.k, pixels + blocks, pixels);
-    let saving = Saving {
+    let saving = ImageWalk {
         layout: layout_of(sizes),
         entries: wide(pixels) + wide(blocks),
     };
@@ -149,27 +122,21 @@ fn write_front(
     write_image(store, sizes, pixels, blocks, &mut output[..n])
 }
 
-pub enum Imaged {
-    Whole(usize),
-    TooShort(usize),
-    Damaged,
-}
-
 // 01's save, where refusal 3 does not apply: the entries are counted, then a walk writes each once and finds as many.
-pub fn save(store: &[u32], sizes: Sizes, output: &mut [u8]) -> Imaged
+pub fn save(store: &[u32], sizes: Sizes, output: &mut [u8]) -> Saving
     requires { ⌜ UsableStore (now store) × (sizes ≡ sizesOf (now store)) ⌝ }
-    ensures { λ r. ⌜ SaveAnswer (now (store .entry)) (now (output .entry)) (now (output .exit)) r ⌝ }
+    ensures { λ r. ⌜ Saves (now (store .entry)) (effect (saveAnswer r) (now (output .entry)) (now (output .exit))) ⌝ }
 {
     let Numbers::Said { pixels, blocks } = read_numbers(store, sizes) else {
-        return Imaged::Damaged;
+        return Saving::Refused(Refusal::StoreDamaged);
     };
     let entries = wide(pixels) + wide(blocks);
-    let needed = HEADER_LENGTH + 5 * entries;
+    let needed = HEADER_BYTES + ENTRY_BYTES * entries;
     if output.len() < needed {
-        return Imaged::TooShort(needed);
+        return Saving::Short(needed);
     }
     if write_front(store, sizes, pixels, blocks, output, needed) != entries {
-        return Imaged::Damaged;
+        return Saving::Refused(Refusal::StoreDamaged);
     }
-    Imaged::Whole(needed)
+    Saving::Saved(needed)
 }

@@ -1,6 +1,5 @@
 ghost use mathlib.Core.Path.{_≡_};
-ghost use Rattle.saving.specs.Numbers.{NumbersAnswer};
-ghost use Rattle.saving.specs.Numbers.{BlockTallied};
+ghost use Rattle.saving.specs.Numbers.{NumbersAnswer, BlockTallied};
 ghost use Rattle.measures.specs.Layout.{LayoutFits};
 ghost use Rattle.measures.specs.Sizes.{UsableStore, sizesOf};
 use measures::sizes::Layout;
@@ -41,11 +40,9 @@ fn tally_block(
     for i in 0..count {
         match element_at(part, i) {
             Element::Pixel(_) => {}
-            Element::Block {
-                slot: s,
-                level: inner,
-                code: c,
-            } => blocks = tally_block(store, layout, level, s, inner, c, blocks),
+            Element::Block(s, inner, c) => {
+                blocks = tally_block(store, layout, level, s, inner, c, blocks);
+            }
         }
     }
     blocks

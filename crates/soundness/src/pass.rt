@@ -88,10 +88,6 @@ pub fn pass_element(pass: Pass, k: u32, quarters: u32, element: Element) -> Pass
 {
     match element {
         Element::Pixel(code) => pass_entry(pass, k, quarters, 0, code),
-        Element::Block {
-            slot: _,
-            level,
-            code,
-        } => pass_entry(pass, k, quarters, level, code),
+        Element::Block(_, level, code) => pass_entry(pass, k, quarters, level, code),
     }
 }

@@ -114,11 +114,7 @@ fn walk_element(store: &[u32], limits: Limits, element: Element, level: u32, see
     let layout = limits.layout;
     match element {
         Element::Pixel(_) => see_pixel(limits, seen),
-        Element::Block {
-            slot,
-            level: inner,
-            code,
-        } => {
+        Element::Block(slot, inner, code) => {
             if inner < 1 {
                 return Walked::Unsound;
             }

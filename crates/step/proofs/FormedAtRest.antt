@@ -19,15 +19,13 @@ use Rattle.store.proofs.FreeChains.{absent, every-map, free-kept, first-taken, 
 use Rattle.descent.specs.Way.{Frame}
 use Rattle.rewrite.specs.Rewrite.{SlotNow, BlockFormed}
 use Rattle.rewrite.proofs.SlotNows.{now-says}
-use Rattle.ascent.proofs.Frames.{waySlots}
+use Rattle.ascent.proofs.Frames.{waySlots, plug-pixels}
 use Rattle.ascent.proofs.Pending.{Setting, widthIn, slotsIn, Laid}
 use Rattle.ascent.proofs.FormedAt.{FormedAt}
-use Rattle.ascent.proofs.Completed.{Completed}
-use Rattle.ascent.proofs.Frames.{plug-pixels}
+use Rattle.ascent.proofs.Completed.{Completed, AtRest, completed}
 use Rattle.ascent.proofs.FramesStand.{frames-kept}
 use Rattle.ascent.proofs.SlotCounts.{shared-moves}
 use Rattle.ascent.proofs.Around.{level-is, holds-x, way-elsewhere, elements-elsewhere, free-elsewhere}
-use Rattle.ascent.proofs.Completed.{AtRest, completed}
 use Rattle.ascent.proofs.SlotForBlock.{slot-for-block}
 use Rattle.step.proofs.Formed.{formedAs, formed-pixels, one-block-more, slots-and-block, run-words, with-block-words, block-stands}
 

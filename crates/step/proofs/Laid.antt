@@ -20,12 +20,11 @@ use Rattle.runs.specs.Run.{codesFrom, countNear}
 use Rattle.rewrite.specs.Rewrite.{SplicedSlot, scratchWords}
 use Rattle.rewrite.proofs.SlotNows.{says-now, now-says, spliced-now}
 use Rattle.ascent.proofs.Pending.{Setting, widthIn, Pending, Laid}
-use Rattle.ascent.proofs.Completed.{Completed}
+use Rattle.ascent.proofs.Completed.{Completed, AtRest, completed}
 use Rattle.step.specs.Step.{mostHandedUp}
 use Rattle.ascent.proofs.Around.{level-is, holds-x, slot-below, around-kept}
 use Rattle.ascent.proofs.RunLaw.{no-run}
 use Rattle.step.proofs.PlacedWords.{spliced-words}
-use Rattle.ascent.proofs.Completed.{AtRest, completed}
 
 pub sizes : (a t b : Placed) → size (a ⧺ (t ⧺ b)) ≡ size a + (size t + size b)
 sizes a t b = size-join a (t ⧺ b) ∙ ap (λ (n : ℕ). size a + n) (size-join t b)

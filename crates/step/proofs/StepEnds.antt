@@ -26,12 +26,11 @@ use Rattle.step.specs.declared.Change.{Change}
 use Rattle.step.specs.declared.Placing.the-variants as placing
 use Rattle.step.specs.declared.Stepped.{Stepped}
 use Rattle.step.specs.declared.Stepped.the-variants.{Done, Up, Damaged}
-use Rattle.ascent.proofs.Frames.{FramesRight}
+use Rattle.ascent.proofs.Frames.{FramesRight, frames-level}
 use Rattle.ascent.proofs.Pending.{Setting, widthIn, Laid}
 use Rattle.ascent.proofs.FormedAt.{FormedAt}
 use Rattle.ascent.proofs.Completed.{Completed}
 use Rattle.step.specs.Step.{mostHandedUp, Kept, CanPut, PutMeets, InSetting, SteppedRight, FewHandedUp, CanRegroup, RegroupMeets, UnderfullMeets, StepMeets}
-use Rattle.ascent.proofs.Frames.{frames-level}
 use Rattle.ascent.proofs.RunLaw.{formed-by}
 use Rattle.step.proofs.RegroupEnds.{kept-same, kept-but-slot, front-kept}
 use Rattle.step.proofs.Laid.{can-splice, laid-by-splice, right-as-it-is, done-as-it-is}

@@ -15,11 +15,10 @@ use Rattle.store.proofs.FreeChains.{occurrences-join}
 use Rattle.descent.specs.Way.{Frame}
 use Rattle.rewrite.specs.Rewrite.{SlotNow, HandedUpBlock, HandedUpAll}
 use Rattle.rewrite.proofs.SlotNows.{says-now, now-says}
-use Rattle.ascent.proofs.Frames.{waySlots}
+use Rattle.ascent.proofs.Frames.{waySlots, frames-level}
 use Rattle.ascent.proofs.Pending.{Setting, widthIn, Laid}
 use Rattle.ascent.proofs.FormedAt.{FormedAt}
 use Rattle.step.specs.Step.{PendingAbove}
-use Rattle.ascent.proofs.Frames.{frames-level}
 use Rattle.ascent.proofs.FramesStand.{frames-kept}
 use Rattle.ascent.proofs.Around.{others-agree, way-elsewhere, elements-elsewhere, free-elsewhere, around-kept}
 use Rattle.step.proofs.Laid.{sizes}

@@ -14,10 +14,10 @@ use measures::slots::MOST_ELEMENT_WORDS;
 use measures::slots::SLOT_HEAD;
 use measures::slots::wide;
 
-// 01: an element is either a pixel with its code or a block with its slot.
+// 01: an element is either a pixel with its code or a block with its slot, here with its level and code as well.
 pub enum Element {
     Pixel(u32),
-    Block { slot: u32, level: u32, code: u32 },
+    Block(u32, u32, u32),
 }
 
 // The tag of a block's element has its slot below this number and its level above it.
@@ -39,11 +39,7 @@ fn element_of(code: u32, tag: u32) -> Element
         return Element::Pixel(code);
     }
     let rest = tag - 1;
-    Element::Block {
-        slot: rest % TAG_SLOTS,
-        level: rest / TAG_SLOTS,
-        code,
-    }
+    Element::Block(rest % TAG_SLOTS, rest / TAG_SLOTS, code)
 }
 
 pub fn element_at(part: &[u32], i: usize) -> Element

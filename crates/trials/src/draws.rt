@@ -1,65 +1,73 @@
-// What is drawn for a history and for each of its calls.
+// What is drawn for a history and for each of its calls. A seed is the call's number among all calls; every draw of a call has a place of its own.
 ghost use Prim.Native.Nat.{_≤_, _<_};
 use plain::blocks::Panel;
 use plain::calls::words_needed;
 use plain::codes::side_of;
 use plain::codes::size_of;
+use plain::images::Bytes;
 use plain::window::Window;
 
-// A linear congruential generator; its high bits are used.
-pub fn draw(random: &mut u32, below: u32) -> u32
+// Two multiplications with a fold between them; the high bits are used.
+pub fn draw(seed: u32, place: u32, below: u32) -> u32
     requires { ⌜ 1 ≤ below ⌝ }
     ensures { λ r. ⌜ r < below ⌝ }
 {
-    let next = (*random as u64) * 1664525 + 1013904223;
-    *random = (next % 4294967296) as u32;
-    (next % 4294967296 / 256) as u32 % below
+    let once = ((seed as u64) * 32 + (place as u64)) % 4294967296 * 2654435761 % 4294967296;
+    let twice = (once ^ (once >> 16)) % 4294967296 * 2246822519 % 4294967296;
+    (twice / 256) as u32 % below
 }
 
 // Small k and small N prevail.
-pub fn panel_drawn(random: &mut u32) -> Panel {
-    let m = 1 + draw(random, 4);
-    let k_below = 1 + draw(random, 15);
-    let k = 2 + draw(random, k_below);
-    let most = 1 + draw(random, 6 + size_of(m) / 2);
+pub fn panel_drawn(seed: u32) -> Panel {
+    let m = 1 + draw(seed, 0, 4);
+    let k = 2 + draw(seed, 1, 1 + draw(seed, 2, 15));
+    let most = 1 + draw(seed, 3, 6 + size_of(m) / 2);
     Panel {
         m,
         k: k as u8,
         most,
         words: words_needed(k, most),
+        places: (5 * size_of(m)) as u16,
     }
 }
 
 // On the panel, often near its corner; now and then beyond it.
-pub fn coordinate(random: &mut u32, panel: Panel) -> u32 {
+fn coordinate(seed: u32, place: u32, side: u32) -> u32
+    requires { ⌜ 1 ≤ side ⌝ }
+{
+    let kind = draw(seed, place, 64);
+    if kind < 1 {
+        return 4294967295;
+    }
+    if kind < 2 {
+        return side;
+    }
+    if kind < 32 {
+        return draw(seed, place | 16, side);
+    }
+    draw(seed, place | 16, 1 + side / 4)
+}
+
+// A pixel is its near corner. The far corner is mostly not before the near one.
+pub fn window_drawn(seed: u32, panel: Panel) -> Window {
     let side = side_of(panel.m);
-    match draw(random, 64) {
-        0 => side,
-        1 => 4294967295,
-        2..=31 => draw(random, side),
-        _ => draw(random, 1 + side / 4),
+    let x0 = coordinate(seed, 0, side);
+    let y0 = coordinate(seed, 1, side);
+    let x1 = coordinate(seed, 2, side);
+    let y1 = coordinate(seed, 3, side);
+    if draw(seed, 4, 4) < 1 {
+        return Window { x0, y0, x1, y1 };
     }
-}
-
-// The far end of a window, mostly not before the near one.
-fn far_end(random: &mut u32, panel: Panel, near: u32) -> u32 {
-    let far = coordinate(random, panel);
-    if draw(random, 4) < 1 {
-        return far;
+    Window {
+        x0,
+        y0,
+        x1: x0 | x1,
+        y1: y0 | y1,
     }
-    near | far
-}
-
-pub fn window_drawn(random: &mut u32, panel: Panel) -> Window {
-    let x0 = coordinate(random, panel);
-    let y0 = coordinate(random, panel);
-    let x1 = far_end(random, panel, x0);
-    let y1 = far_end(random, panel, y0);
-    Window { x0, y0, x1, y1 }
 }
 
 // All, or one time in `odds` as much as is needed, or sometimes one less.
-pub fn length_drawn(random: &mut u32, needed: usize, all: usize, odds: u32) -> usize
+pub fn length_drawn(seed: u32, place: u32, needed: usize, all: usize, odds: u32) -> usize
     requires { ⌜ 1 ≤ odds ⌝ }
     ensures { λ r. ⌜ r ≤ all ⌝ }
 {
@@ -69,44 +77,31 @@ pub fn length_drawn(random: &mut u32, needed: usize, all: usize, odds: u32) -> u
     if all < needed {
         return all;
     }
-    if draw(random, odds) != 0 {
+    if draw(seed, place, odds) != 0 {
         return all;
     }
-    needed - ((draw(random, 4) / 3) as usize)
+    needed - ((draw(seed, place | 1, 4) / 3) as usize)
 }
 
-pub fn number_drawn(random: &mut u32, right: u32, below: u32, above: u32) -> u32 {
-    match draw(random, 8) {
-        0 => below,
-        1 => above,
-        _ => right,
+pub fn number_drawn(seed: u32, place: u32, right: u32, below: u32, above: u32) -> u32 {
+    let kind = draw(seed, place, 8);
+    if kind < 1 {
+        return below;
     }
-}
-
-// One byte of an image, and what it is changed to.
-pub struct Change {
-    pub at: usize,
-    pub value: u32,
-}
-
-// The image of another panel may become one of this panel; any byte may be wrong; often none is changed, for this place is past every image.
-pub fn change_drawn(random: &mut u32, panel: Panel) -> Change {
-    match draw(random, 8) {
-        0 => Change {
-            at: 0,
-            value: panel.m,
-        },
-        1 => Change {
-            at: 1,
-            value: panel.k as u32,
-        },
-        2..=4 => any_change(random),
-        _ => Change { at: 2047, value: 0 },
+    if kind < 2 {
+        return above;
     }
+    right
 }
 
-fn any_change(random: &mut u32) -> Change {
-    let at = draw(random, 128) as usize;
-    let value = draw(random, 20);
-    Change { at, value }
+// The image of another panel may become one of this panel; any byte may be wrong; often none is changed.
+pub fn change(seed: u32, panel: Panel, image: &mut Bytes) {
+    let kind = draw(seed, 7, 8);
+    if kind < 1 {
+        image[0] = (panel.m % 256) as u8;
+    } else if kind < 2 {
+        image[1] = panel.k;
+    } else if kind < 5 {
+        image[draw(seed, 8, 128) as usize] = draw(seed, 9, 20) as u8;
+    }
 }

@@ -1,18 +1,20 @@
 // The totals, and the first difference.
+ghost use Prim.Native.Nat.{_≤_};
 use crate::steps::Step;
+use answers::Checking;
 use plain::calls::Answer;
-use register::Checking;
 
 // How often each refusal was given, none as 0; then how many calls there were.
 pub type Totals = [u32; 14];
 
 fn add_one(totals: &mut Totals, at: u32) {
-    let i = (at % 14) as usize;
+    let i = (at % 13) as usize;
     totals[i] = std::num::wrapping_add_u32(totals[i], 1);
+    totals[13] = std::num::wrapping_add_u32(totals[13], 1);
 }
 
 fn is_same(a: Answer, b: Answer) -> bool {
-    a.refusal == b.refusal && a.first == b.first && a.second == b.second
+    (a.refusal == b.refusal) & (a.first == b.first) & (a.second == b.second)
 }
 
 fn is_sound(store: &[u32]) -> bool {
@@ -22,7 +24,7 @@ fn is_sound(store: &[u32]) -> bool {
     true
 }
 
-// A call is noted where the answers and what they wrote are the same, and check says sound; else the difference is printed.
+// A call is noted where the answers are the same, what was written is right, and check says sound; else the difference is printed.
 pub fn is_noted(
     history: u32,
     number: u32,
@@ -32,27 +34,29 @@ pub fn is_noted(
     totals: &mut Totals,
 ) -> bool {
     let sound = is_sound(store);
-    if is_same(step.got, step.want) && step.same_output && sound {
+    if is_same(step.got, step.want) & step.right_output & sound {
         add_one(totals, step.got.refusal);
-        add_one(totals, 13);
         return true;
     }
-    print(b"history ", history);
-    print(b", call ", number);
-    print_name(call);
+    print_call(history, number, call);
     print_difference(step, sound);
     false
+}
+
+fn print_call(history: u32, number: u32, call: u32) {
+    print(b"history ", history);
+    print(b", call ", number);
+    print_part(
+        b" mark  clear ask   count list  save  load  make  check",
+        (6 * (call % 9)) as usize,
+    );
 }
 
 fn print_difference(step: Step, sound: bool) {
     print_answer(b" gives ", step.got);
     print_answer(b", the plain set ", step.want);
-    if !step.same_output {
-        io::write_all(1, b"; other output");
-    }
-    if !sound {
-        io::write_all(1, b"; unsound");
-    }
+    print(b"; right output: ", step.right_output as u32);
+    print(b"; sound: ", sound as u32);
     io::write_all(1, b"\n");
 }
 
@@ -69,19 +73,13 @@ fn print_answer(title: &[u8], answer: Answer) {
     io::print_decimal(1, answer.second as u64);
 }
 
-fn print_name(call: u32) {
-    match call {
-        0 => io::write_all(1, b": mark"),
-        1 => io::write_all(1, b": clear"),
-        2 => io::write_all(1, b": ask"),
-        3 => io::write_all(1, b": count"),
-        4 => io::write_all(1, b": list"),
-        5 => io::write_all(1, b": save"),
-        6 => io::write_all(1, b": load"),
-        7 => io::write_all(1, b": make"),
-        _ => io::write_all(1, b": check"),
+// The call's name is six of these bytes.
+fn print_part(text: &[u8], start: usize)
+    requires { ⌜ start ≤ 48 ⌝ }
+{
+    if start + 6 <= text.len() {
+        io::write_all(1, &text[start..start + 6]);
     }
-    ;
 }
 
 pub fn print_totals(totals: &Totals) {
@@ -89,11 +87,7 @@ pub fn print_totals(totals: &Totals) {
     io::write_all(1, b"\nanswers");
     for refusal in 0..13u32 {
         print(b" ", refusal);
-        print_total(totals, refusal);
+        print(b":", totals[refusal as usize]);
     }
     io::write_all(1, b"\nok\n");
-}
-
-fn print_total(totals: &Totals, refusal: u32) {
-    print(b":", totals[(refusal % 14) as usize]);
 }

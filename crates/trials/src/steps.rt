@@ -1,117 +1,151 @@
 // One call, drawn, on the register and on the plain set.
-ghost use Prim.Native.Nat.{_≤_};
-use crate::answers;
 use crate::draws;
+use crate::numbers;
+use answers::refusal_of;
 use plain::blocks::Panel;
 use plain::blocks::Set;
 use plain::calls;
 use plain::calls::Answer;
-use plain::calls::refused;
+use plain::calls::answered;
 use plain::images;
-use plain::window::found;
-use register::refusal_of;
+use plain::images::Bytes;
+use plain::window::Window;
+use plain::window::around;
+use plain::window::is_list;
 
-// Both answers to a call, and whether what was written is the same too.
+// Both answers to a call, and whether what was written is right too.
 pub struct Step {
     pub got: Answer,
     pub want: Answer,
-    pub same_output: bool,
+    pub right_output: bool,
 }
 
-fn both(got: Answer, want: Answer, same_output: bool) -> Step {
+fn both(got: Answer, want: Answer, right_output: bool) -> Step {
     Step {
         got,
         want,
-        same_output,
+        right_output,
     }
 }
 
 fn refusals(got: u32, want: u32) -> Step {
-    both(refused(got), refused(want), true)
+    both(answered(got, 0, 0), answered(want, 0, 0), true)
 }
 
-// The call's number: mark, clear, ask, count, list, save, load, make, check. In each stretch of a history one of the first two prevails.
-pub fn call_drawn(random: &mut u32, prevailing: u32) -> u32 {
-    match draws::draw(random, 32) {
-        0..=13 => prevailing,
-        14..=17 => prevailing ^ 1,
-        18..=20 => 2,
-        21..=23 => 3,
-        24..=26 => 4,
-        27..=28 => 5,
-        29..=30 => 6,
-        _ => 7 + draws::draw(random, 2),
+// The calls by their numbers: mark, clear, ask, count, list, save, load, make, check. In each stretch of a history one of the first two prevails.
+const CALLS: [u32; 32] = [
+    0,
+    0,
+    0,
+    0,
+    0,
+    0,
+    0,
+    0,
+    0,
+    0,
+    0,
+    0,
+    0,
+    0,
+    1,
+    1,
+    1,
+    1,
+    2,
+    2,
+    2,
+    3,
+    3,
+    3,
+    4,
+    4,
+    4,
+    5,
+    5,
+    6,
+    6,
+    7,
+];
+
+pub fn call_drawn(seed: u32, clearing: u32) -> u32 {
+    let call = CALLS[draws::draw(seed, 14, 32) as usize];
+    if call < 2 {
+        return call ^ clearing;
     }
-}
-
-fn odds_of(call: u32) -> u32
-    ensures { λ r. ⌜ 1 ≤ r ⌝ }
-{
-    if call == 7 {
-        return 2;
+    if call < 7 {
+        return call;
     }
-    32
+    7 + draws::draw(seed, 15, 2)
 }
 
-// The store is lent whole; one time in 32, and to make one time in two, just as long as needed or one word shorter.
+// The store is lent whole; one time in 16 just as long as needed or one word shorter.
 pub fn run(
     call: u32,
+    seed: u32,
     panel: Panel,
-    random: &mut u32,
     store: &mut [u32],
     set: &mut Set,
-    bytes: &mut [u8],
+    image: &mut Bytes,
 ) -> Step {
-    let odds = odds_of(call);
-    let length = draws::length_drawn(random, panel.words, store.len(), odds);
-    run_on(call, panel, random, &mut store[..length], set, bytes)
+    let length = draws::length_drawn(seed, 10, panel.words, store.len(), 16);
+    run_on(call, seed, panel, &mut store[..length], set, image)
 }
 
 fn run_on(
     call: u32,
+    seed: u32,
     panel: Panel,
-    random: &mut u32,
     store: &mut [u32],
     set: &mut Set,
-    bytes: &mut [u8],
+    image: &mut Bytes,
 ) -> Step {
+    if call < 5 {
+        return on_window(call, seed, panel, store, set);
+    }
     match call {
-        0 => mark(panel, random, store, set),
-        1 => clear(panel, random, store, set),
-        2 => ask(panel, random, store, set),
-        3 => count(panel, random, store, set),
-        4 => list(panel, random, store, set),
-        5 => save(panel, random, store, set, bytes),
-        6 => load(panel, random, store, set, bytes),
-        7 => make(panel, random, store, set),
+        5 => save(seed, panel, store, set, image),
+        6 => load(seed, panel, store, set, image),
+        7 => make(seed, panel, store, set),
         _ => check(panel, store),
     }
 }
 
-fn mark(panel: Panel, random: &mut u32, store: &mut [u32], set: &mut Set) -> Step {
-    let x = draws::coordinate(random, panel);
-    let y = draws::coordinate(random, panel);
-    let got = refusal_of(register::mark(store, x, y));
-    refusals(got, calls::mark(panel, store.len(), x, y, set))
+fn on_window(call: u32, seed: u32, panel: Panel, store: &mut [u32], set: &mut Set) -> Step {
+    let window = draws::window_drawn(seed, panel);
+    match call {
+        0 => mark(panel, window, store, set),
+        1 => clear(panel, window, store, set),
+        2 => ask(panel, window, store, set),
+        3 => count(panel, window, store, set),
+        _ => list(seed, panel, window, store, set),
+    }
 }
 
-fn clear(panel: Panel, random: &mut u32, store: &mut [u32], set: &mut Set) -> Step {
-    let x = draws::coordinate(random, panel);
-    let y = draws::coordinate(random, panel);
-    let got = refusal_of(register::clear(store, x, y));
-    refusals(got, calls::clear(panel, store.len(), x, y, set))
+fn mark(panel: Panel, window: Window, store: &mut [u32], set: &mut Set) -> Step {
+    let got = refusal_of(register::mark(store, window.x0, window.y0));
+    refusals(
+        got,
+        calls::change(panel, store.len(), window.x0, window.y0, true, set),
+    )
 }
 
-fn ask(panel: Panel, random: &mut u32, store: &[u32], set: &Set) -> Step {
-    let x = draws::coordinate(random, panel);
-    let y = draws::coordinate(random, panel);
-    let got = answers::of_asking(register::ask(store, x, y));
-    both(got, calls::ask(panel, store.len(), x, y, set), true)
+fn clear(panel: Panel, window: Window, store: &mut [u32], set: &mut Set) -> Step {
+    let got = refusal_of(register::clear(store, window.x0, window.y0));
+    refusals(
+        got,
+        calls::change(panel, store.len(), window.x0, window.y0, false, set),
+    )
 }
 
-fn count(panel: Panel, random: &mut u32, store: &[u32], set: &Set) -> Step {
-    let window = draws::window_drawn(random, panel);
-    let got = answers::of_counting(register::count(
+fn ask(panel: Panel, window: Window, store: &[u32], set: &Set) -> Step {
+    let got = numbers::of_asking(register::ask(store, window.x0, window.y0));
+    let pixel = around(window.x0, window.y0);
+    both(got, calls::count(panel, store.len(), pixel, set), true)
+}
+
+fn count(panel: Panel, window: Window, store: &[u32], set: &Set) -> Step {
+    let got = numbers::of_counting(register::count(
         store,
         window.x0,
         window.y0,
@@ -121,12 +155,11 @@ fn count(panel: Panel, random: &mut u32, store: &[u32], set: &Set) -> Step {
     both(got, calls::count(panel, store.len(), window, set), true)
 }
 
-fn list(panel: Panel, random: &mut u32, store: &[u32], set: &Set) -> Step {
-    let window = draws::window_drawn(random, panel);
-    let room = draws::length_drawn(random, found(panel, set, window) as usize, 256, 2);
+fn list(seed: u32, panel: Panel, window: Window, store: &[u32], set: &Set) -> Step {
+    let counted = calls::count(panel, store.len(), window, set);
+    let room = draws::length_drawn(seed, 12, counted.first, 256, 2);
     let mut output = [7u32; 256];
-    let mut wanted = [7u32; 256];
-    let got = answers::of_listing(register::list(
+    let got = numbers::of_listing(register::list(
         store,
         window.x0,
         window.y0,
@@ -134,76 +167,58 @@ fn list(panel: Panel, random: &mut u32, store: &[u32], set: &Set) -> Step {
         window.y1,
         &mut output[..room],
     ));
-    let want = calls::list(panel, store.len(), window, set, &mut wanted[..room]);
-    both(got, want, same_words(&output, &wanted))
+    let want = calls::with_output(counted, room);
+    both(got, want, is_list(set, window, want.refusal == 0, &output))
 }
 
-fn same_words(a: &[u32; 256], b: &[u32; 256]) -> bool {
-    let mut same = true;
-    for i in 0..256usize {
-        if a[i] != b[i] {
-            same = false;
-        }
-    }
-    same
-}
-
-// The image is kept for later loads, also by other histories.
-fn save(panel: Panel, random: &mut u32, store: &[u32], set: &Set, bytes: &mut [u8]) -> Step {
-    let room = draws::length_drawn(random, images::image_length(panel, set), 2048, 2);
+// An image that was saved is kept for later loads, also by other histories.
+fn save(seed: u32, panel: Panel, store: &[u32], set: &Set, image: &mut Bytes) -> Step {
+    let room = draws::length_drawn(seed, 12, images::image_length(panel, set), 2048, 2);
     let mut output = [7u8; 2048];
-    let mut wanted = [7u8; 2048];
-    let got = answers::of_saving(register::save(store, &mut output[..room]));
-    let want = calls::save(panel, store.len(), set, &mut wanted[..room]);
-    images::write_image(panel, set, bytes);
-    both(got, want, same_output(&output, &wanted))
+    let got = numbers::of_saving(register::save(store, &mut output[..room]));
+    let want = calls::save(panel, store.len(), set, room);
+    if want.refusal == 0 {
+        *image = output;
+    }
+    both(
+        got,
+        want,
+        images::is_saved(panel, set, want.refusal == 0, &output),
+    )
 }
 
-fn same_output(a: &[u8; 2048], b: &[u8; 2048]) -> bool {
-    images::same_bytes(a, b)
+fn load(seed: u32, panel: Panel, store: &mut [u32], set: &mut Set, kept: &Bytes) -> Step {
+    let mut image = *kept;
+    draws::change(seed, panel, &mut image);
+    load_image(seed, panel, store, set, &image)
 }
 
-// One byte of the image that was kept is changed, and set back afterwards.
-fn load(
-    panel: Panel,
-    random: &mut u32,
-    store: &mut [u32],
-    set: &mut Set,
-    bytes: &mut [u8],
-) -> Step {
-    let change = draws::change_drawn(random, panel);
-    let old = images::byte(bytes, change.at);
-    images::put_byte(bytes, change.at, change.value);
-    let step = load_part(panel, random, store, set, bytes);
-    images::put_byte(bytes, change.at, old);
-    step
+fn load_image(seed: u32, panel: Panel, store: &mut [u32], set: &mut Set, image: &Bytes) -> Step {
+    let end = draws::length_drawn(seed, 12, images::stated_length(image), 2048, 1);
+    let got = load_part(store, image, end);
+    refusals(got, calls::load(panel, store.len(), image, end, set))
 }
 
-fn load_part(
-    panel: Panel,
-    random: &mut u32,
-    store: &mut [u32],
-    set: &mut Set,
-    bytes: &[u8],
-) -> Step {
-    let end = draws::length_drawn(random, images::stated_length(bytes), bytes.len(), 1);
-    let got = refusal_of(register::load(store, &bytes[..end]));
-    refusals(got, calls::load(panel, store.len(), &bytes[..end], set))
+fn load_part(store: &mut [u32], bytes: &[u8], end: usize) -> u32 {
+    if bytes.len() < end {
+        return 0;
+    }
+    refusal_of(register::load(store, &bytes[..end]))
 }
 
 // Each number is the panel's, or now and then just beyond its limits.
-fn make(panel: Panel, random: &mut u32, store: &mut [u32], set: &mut Set) -> Step {
-    let m = draws::number_drawn(random, panel.m, 0, 17);
-    let k = draws::number_drawn(random, panel.k as u32, 1, 17);
-    let most = draws::number_drawn(random, panel.most, 0, 65536);
+fn make(seed: u32, panel: Panel, store: &mut [u32], set: &mut Set) -> Step {
+    let m = draws::number_drawn(seed, 7, panel.m, 0, 17);
+    let k = draws::number_drawn(seed, 8, panel.k as u32, 1, 17);
+    let most = draws::number_drawn(seed, 9, panel.most, 0, 65536);
     let got = refusal_of(register::make(store, m, k, most));
     refusals(got, calls::make(m, k, most, store.len(), set))
 }
 
 fn check(panel: Panel, store: &[u32]) -> Step {
     both(
-        answers::of_checking(register::check(store)),
-        calls::check(panel, store.len()),
+        numbers::of_checking(register::check(store)),
+        calls::opened(panel, store.len(), 1),
         true,
     )
 }

@@ -32,7 +32,7 @@ use Rattle.ascent.proofs.SlotCounts.{plug-slots, shared-moves}
 use Rattle.ascent.proofs.HandUp.{right-size}
 use Rattle.ascent.proofs.Pending.{Setting}
 use Rattle.update.specs.Changed.{OnePixel, comes, goes, CountAllows}
-use Rattle.update.specs.Propagate.{PendingAt}
+use Rattle.propagate.specs.Propagate.{PendingAt}
 
 module _ (k c x : ℕ) (h : 2 ≤ k) (above : c ≤ x) where
   -- elements that are right are right but perhaps around x

@@ -38,7 +38,7 @@ use Rattle.step.proofs.RegroupEnds.{kept-same}
 use Rattle.step.specs.Step.{Kept}
 use Rattle.update.specs.declared.marks.Changing.the-variants as changing
 use Rattle.update.specs.Changed.{OnePixel, comes, goes, exchanged, CountAllows, CanChange, ChangeMeets}
-use Rattle.update.specs.Propagate.{CanPropagate, PropagateMeets}
+use Rattle.propagate.specs.Propagate.{CanPropagate, PropagateMeets}
 use Rattle.update.proofs.ChangeBegins.{settingOf, pixelsAt, at-most-pixel, change-begins}
 
 -- what a store holds is a set of pixels

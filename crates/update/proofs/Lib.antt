@@ -1,4 +1,3 @@
-pub mod Propagation
 pub mod ChangeBegins
 pub mod ChangeEnds
 pub mod MarkAndClear

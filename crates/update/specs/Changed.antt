@@ -1,5 +1,5 @@
--- What mark and clear answer, and what they leave, where refusals 3 and 4 do not apply.
-use Prim.Native.Nat.{ℕ, zero, suc, _≤_, _<_}
+-- What the change of one pixel answers, and what it leaves, where refusals 3 and 4 do not apply.
+use Prim.Native.Nat.{ℕ, zero, suc, _<_}
 use mathlib.Core.Path.{_≡_}
 use mathlib.Core.Bool.{Bool, true, false, not}
 use mathlib.Core.List.{List}
@@ -14,10 +14,6 @@ use Rattle.store.specs.Opening.{CannotOpen}
 use Rattle.store.specs.Sound.{Holds}
 use Rattle.update.specs.declared.marks.Changing.{Changing}
 use Rattle.update.specs.declared.marks.Changing.the-variants as changing
-use Rattle.update.specs.declared.marks.Marking.{Marking}
-use Rattle.update.specs.declared.marks.Marking.the-variants as marking
-use Rattle.update.specs.declared.marks.Clearing.{Clearing}
-use Rattle.update.specs.declared.marks.Clearing.the-variants as clearing
 
 -- what is left of any store, by how the change ends: done; refused, with 5, 6 or 7; or damage met, with 13
 abbrev pub Leaves : List ℕ → List ℕ → Changing → Type 0
@@ -33,7 +29,7 @@ endingOf (suc zero) = changing.Already
 endingOf (suc (suc zero)) = changing.Disallowed
 endingOf (suc (suc (suc n))) = changing.Damaged
 
--- what mark and clear ensure alike; `Case` says of a sound store what holds where it has this set
+-- `Case` says of a sound store what holds where it has this set
 pub record ChangeAnswer (Case : List ℕ → Type 0) (before after : List ℕ) (ending : Changing) : Type 0 where
   pub sound : (set : List ℕ) → Holds before set → Case set
   pub leaves : Leaves before after ending
@@ -70,32 +66,3 @@ ChangeCase before after code allowed out changing.Damaged set = ⊥
 
 abbrev pub ChangeMeets : List ℕ → List ℕ → ℕ → Bool → ℕ → Changing → Type 0
 ChangeMeets before after code allowed out r = ChangeAnswer (ChangeCase before after code allowed out r) before after r
-
-abbrev pub MarkCase : List ℕ → List ℕ → ℕ → Marking → List ℕ → Type 0
-MarkCase before after code marking.Marked set =
-    (member set code ≡ false) × (length set < sizesOf before .most) × Holds after (added code set) × (sizesOf after ≡ sizesOf before)
-MarkCase before after code marking.Already set = (member set code ≡ true) × (after ≡ before)
-MarkCase before after code marking.Full set = (member set code ≡ false) × (sizesOf before .most ≤ length set) × (after ≡ before)
-MarkCase before after code marking.Damaged set = ⊥
-
-abbrev pub markEnding : Marking → Changing
-markEnding marking.Marked = changing.Changed
-markEnding marking.Already = changing.Already
-markEnding marking.Full = changing.Disallowed
-markEnding marking.Damaged = changing.Damaged
-
-abbrev pub MarkAnswer : List ℕ → List ℕ → ℕ → Marking → Type 0
-MarkAnswer before after code r = ChangeAnswer (MarkCase before after code r) before after (markEnding r)
-
-abbrev pub ClearCase : List ℕ → List ℕ → ℕ → Clearing → List ℕ → Type 0
-ClearCase before after code clearing.Cleared set = (member set code ≡ true) × Holds after (removed code set) × (sizesOf after ≡ sizesOf before)
-ClearCase before after code clearing.Unmarked set = (member set code ≡ false) × (after ≡ before)
-ClearCase before after code clearing.Damaged set = ⊥
-
-abbrev pub clearEnding : Clearing → Changing
-clearEnding clearing.Cleared = changing.Changed
-clearEnding clearing.Unmarked = changing.Already
-clearEnding clearing.Damaged = changing.Damaged
-
-abbrev pub ClearAnswer : List ℕ → List ℕ → ℕ → Clearing → Type 0
-ClearAnswer before after code r = ChangeAnswer (ClearCase before after code r) before after (clearEnding r)

@@ -1,2 +1,1 @@
-pub mod Propagate
 pub mod Changed

@@ -1,8 +1,12 @@
 ghost use mathlib.Core.Path.{_≡_};
 ghost use Rattle.pktree.specs.Panel.{OnPanel};
 ghost use Rattle.measures.specs.Sizes.{UsableStore, panelOf, sizesOf};
-ghost use Rattle.update.specs.Changed.{CanChange, ChangeMeets, endingOf, MarkAnswer, ClearAnswer};
-use crate::propagate::propagate;
+ghost use Rattle.promises.specs.Effect.{effect};
+ghost use Rattle.promises.specs.Calls.{Marks, Clears};
+ghost use Rattle.answers.specs.Answer.{answer};
+ghost use Rattle.update.specs.Changed.{CanChange, ChangeMeets, endingOf};
+use answers::Outcome;
+use answers::Refusal;
 use descent::PATH_LENGTH;
 use descent::locate;
 use measures::sizes::Sizes;
@@ -10,6 +14,7 @@ use measures::sizes::layout_of;
 use measures::slots::wide;
 use measures::words::PIXELS;
 use measures::words::REGISTER_MARK;
+use propagate::propagate;
 use step::Change;
 
 // How the change of one pixel ends. It is disallowed where the number of pixels held does not let one come, or go.
@@ -80,46 +85,33 @@ fn change_pixel(
     CHANGED
 }
 
-pub enum Marking {
-    Marked,
-    Already,
-    Full,
-    Damaged,
-}
-
 // 01's mark, where refusals 3 and 4 do not apply.
-pub fn mark(store: &mut [u32], sizes: Sizes, code: u32) -> Marking
+pub fn mark(store: &mut [u32], sizes: Sizes, code: u32) -> Outcome
     requires { ⌜ (UsableStore (now store) × (sizes ≡ sizesOf (now store))) × OnPanel (panelOf sizes) code ⌝ }
-    ensures { λ r. ⌜ MarkAnswer (now (store .entry)) (now (store .exit)) code r ⌝ }
+    ensures { λ r. ⌜ Marks (now (store .entry)) code (effect (answer r) (now (store .entry)) (now (store .exit))) ⌝ }
 {
     let room = store[PIXELS] < sizes.most;
     match ending(change_pixel(store, sizes, code, room, 0, 1)) {
-        Changing::Changed => Marking::Marked,
-        Changing::Already => Marking::Already,
-        Changing::Disallowed => Marking::Full,
-        Changing::Damaged => Marking::Damaged,
+        Changing::Changed => Outcome::Done,
+        Changing::Already => Outcome::Refused(Refusal::AlreadyMarked),
+        Changing::Disallowed => Outcome::Refused(Refusal::Full),
+        Changing::Damaged => Outcome::Refused(Refusal::StoreDamaged),
     }
 }
 
-pub enum Clearing {
-    Cleared,
-    Unmarked,
-    Damaged,
-}
-
 // 01's clear, where refusals 3 and 4 do not apply. A pixel that is there is counted.
-pub fn clear(store: &mut [u32], sizes: Sizes, code: u32) -> Clearing
+pub fn clear(store: &mut [u32], sizes: Sizes, code: u32) -> Outcome
     requires { ⌜ (UsableStore (now store) × (sizes ≡ sizesOf (now store))) × OnPanel (panelOf sizes) code ⌝ }
-    ensures { λ r. ⌜ ClearAnswer (now (store .entry)) (now (store .exit)) code r ⌝ }
+    ensures { λ r. ⌜ Clears (now (store .entry)) code (effect (answer r) (now (store .entry)) (now (store .exit))) ⌝ }
 {
     let counted = 0 < store[PIXELS];
     match ending(change_pixel(store, sizes, code, counted, 1, 0)) {
-        Changing::Changed => Clearing::Cleared,
-        Changing::Already => Clearing::Unmarked,
+        Changing::Changed => Outcome::Done,
+        Changing::Already => Outcome::Refused(Refusal::NotMarked),
         Changing::Disallowed => {
             store[REGISTER_MARK] = 0;
-            Clearing::Damaged
+            Outcome::Refused(Refusal::StoreDamaged)
         }
-        Changing::Damaged => Clearing::Damaged,
+        Changing::Damaged => Outcome::Refused(Refusal::StoreDamaged),
     }
 }

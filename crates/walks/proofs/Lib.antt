@@ -1,3 +1,4 @@
 pub mod EnteredSlot
 pub mod Walks
 pub mod RootWalk
+pub mod LoopTurns

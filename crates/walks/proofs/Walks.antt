@@ -54,6 +54,11 @@ pub entered-below : {layout : Layout} {words : List ℕ} {above slot level code 
     → slot < layout .slots
 entered-below e h = h .entered _ e .slot-below
 
+-- a block that is not entered is none of a sound store
+pub never-barred : {layout : Layout} {words : List ℕ} {above slot level code : ℕ} {o : Opening} {k : ℕ} {es : Placed} → o ≡ Damaged → Entered layout words above slot level code o
+    → LayoutFits layout words → level < above → BlockView k (layout .width) (layout .slots) words slot level code es → ⊥
+never-barred e h fits low view = view-opens fits view (record { shut = h .barred e (view .slot-below) low })
+
 module _ {S : Type 0} {W : S → Forest → S → Type 0} {layout : Layout} {words : List ℕ} {level : ℕ} {s t : S} where
   pub walked-pixel : {element : Element} {c : ℕ} → element ≡ Pixel c → W s (pixel c empty) t → ElementWalked W layout words level element s t
   walked-pixel {c = c} e w = rw e (record { right = one })
@@ -74,14 +79,9 @@ module _ {S : Type 0} {W : S → Forest → S → Type 0} {layout : Layout} {wor
   walked-block e b = walked-child e (λ k at fs low child. b .right k fs (child .below) (child .view))
 
 module _ {S : Type 0} {W : S → Forest → S → Type 0} {layout : Layout} {words : List ℕ} {above slot level code : ℕ} where
-  -- a block that is not entered is none of a sound store
   pub not-entered : {o : Opening} {s t : S} → o ≡ Damaged → Entered layout words above slot level code o → LayoutFits layout words
       → BlockWalked W layout words above slot level code s t
-  not-entered e h fits = record { right = λ k es low view. absurd (view-opens fits view (record { shut = h .barred e (view .slot-below) low })) }
-
-  pub none-entered : {o : Opening} {s t : S} → o ≡ Damaged → Entered layout words above slot level code o → LayoutFits layout words
-      → InsideWalked W layout words above slot level code s t
-  none-entered e h fits = record { right = λ k es low view. absurd (view-opens fits view (record { shut = h .barred e (view .slot-below) low })) }
+  not-entered e h fits = record { right = λ k es low view. absurd (never-barred e h fits low view) }
 
   pub loop-begins : {o : Opening} {count : ℕ} {part : List ℕ} {s : S} → o ≡ Elements count → Entered layout words above slot level code o
       → part ≡ slotPart (layout .width) words slot → Walk W → InLoop W layout words above slot level code count part 0 s s

@@ -10,8 +10,7 @@ use Rattle.measures.specs.Slot.{slotPart}
 use Rattle.store.specs.Opening.{HeaderSays, Opened}
 use Rattle.store.specs.declared.opening.Opening.{Opening}
 use Rattle.descent.specs.declared.Ahead.{Ahead}
-use Rattle.descent.specs.Located.{CanEnter}
-use Rattle.descent.specs.Located.{Looked, InnerBlock}
+use Rattle.descent.specs.Located.{CanEnter, Looked, InnerBlock}
 use Rattle.measures.proofs.Usable.{slot-long}
 use Rattle.descent.proofs.Descending.{Descended, at-root, stopped, never-at-pixel, never-closed, few-elements, found-here, never-barred, steps-down}
 use Rattle.descent.proofs.locate.Statement.{statement}

@@ -2,7 +2,7 @@ use Prim.Native.Nat.{ℕ}
 use mathlib.Core.Path.{_≡_, ap₂, subst, _∙_}
 use mathlib.Core.List.{List}
 use lib.ListN.{take, drop}
-use Rattle.history.specs.Survivors.{load}
+use Rattle.promises.specs.Survivors.{load}
 use Rattle.history.specs.Run.{Step}
 use Rattle.history.proofs.CallSteps.{load-step}
 use borrow.Author.Needs.{needs}

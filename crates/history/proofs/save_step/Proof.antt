@@ -2,7 +2,7 @@ use Prim.Native.Nat.{ℕ}
 use native.Mathlib.Omega.{arith}
 use mathlib.Core.Path.{subst}
 use lib.ListN.{take, replicate, length-take}
-use Rattle.history.specs.Survivors.{save}
+use Rattle.promises.specs.Survivors.{save}
 use Rattle.history.specs.Run.{Step}
 use Rattle.history.proofs.CallSteps.{save-step}
 use borrow.Author.Needs.{needs}

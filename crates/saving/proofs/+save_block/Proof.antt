@@ -2,16 +2,17 @@
 use Prim.Native.Nat.{ℕ, _-_}
 use borrow.Author.Needs.{needs}
 use borrow.Fn.PlainCycle.{Measures}
-use mathlib.Core.Path.{_≡_, ap, _∙_}
+use mathlib.Core.Path.{_≡_, refl, ap, _∙_}
 use mathlib.Core.Logic.{⊎-elim}
 use lib.ListN.{length}
 use Rattle.walks.proofs.Walks.{InLoop, entered-below, entered-low, loop-begins, turns-pixel, turns-block}
+use Rattle.walks.proofs.LoopTurns.{element-there, next-fits, fewer-left}
 use Rattle.saving.specs.Saving.{CanSave, EntriesPut}
-use Rattle.saving.proofs.Saves.{save-walk, written-is, save-within, pixel-saved, save-full, save-barred, save-whole}
+use Rattle.saving.proofs.Saves.{save-walk, written-is, can-save-same, save-within, pixel-saved, save-full, save-barred, save-whole}
 use Rattle.saving.proofs.save_block.Kinds as kinds
 use Rattle.saving.proofs.save_block.Reads as reads
 use Rattle.saving.proofs.+save_block.Lts-save_block as lts
-use Rattle.saving.proofs.put_entry.Reads as put-entry
+use Rattle.image.proofs.writing.put_entry.Reads as put-entry
 use Rattle.saving.proofs.save_pixel.Reads as save-pixel
 use Rattle.walks.proofs.enter.Reads as enter
 use Rattle.walks.proofs.part_of.Reads as part-of
@@ -22,42 +23,63 @@ use Rattle.saving.proofs.+save_block.Tie.{close}
 abbrev μ-block : Measures 2 kinds.ps ℕ
 μ-block κs a = a .1 .1 .0
 
-abbrev Inv-loop : lts.InvT-loop
-Inv-loop store saving above slot level code output₀ at entries count part next₀ i₀ output next i =
+-- the level of the block around, which falls, is kept in reach
+abbrev Inv-loop : ℕ → lts.InvT-loop
+Inv-loop t store saving above slot level code output₀ at entries count part next₀ i₀ output next i =
     InLoop (EntriesPut saving) (saving .layout) store above slot level code count part i (output₀, next₀) (output, next)
-    × CanSave saving store above output₀ × (length output ≡ length output₀)
+    × CanSave saving store above output₀ × (length output ≡ length output₀) × (above ≡ t)
 
 abbrev μ-loop : lts.MeasureT-loop
 μ-loop store saving above slot level code output₀ at entries count part next₀ i₀ output next i = count - i
 
 pub +save-block-spec : {M : Type 1} → statement M
 +save-block-spec = close μ-block λ t. lts.spec
-    (_, enter.Learnt, _, part-of.Learnt, _, put-entry.Learnt, _, element-at.Learnt, _, save-pixel.Learnt, _, reads.Post) _ reads.Post Inv-loop μ-loop
+    (_, enter.Learnt, _, part-of.Learnt, _, put-entry.Learnt, _, element-at.Learnt, _, save-pixel.Learnt, _, reads.Post) _ reads.Post (Inv-loop t) μ-loop
     (λ c. search needs)
-    (λ c. search (needs, save-full))
+    (λ c. save-full (c .if1 .taken))
     (λ c κs. search needs)
-    (λ c. search needs)
-    (λ c. search needs)
+    (λ c. c .match .keys1)
+    (λ c. c .match .keys2)
     (λ c. search needs)
     (λ c. search (needs, save-barred))
-    (λ c κs. search (needs, entered-below))
-    (λ c κs. search (needs, entered-low))
+    (λ c κs.
+    let tried = c .before .before .before in
+    (tried .before .before .before .before .pre .1 .fits, entered-below (c .before .count .given .1) (tried .enter .ensures)))
+    (λ c κs.
+    let opened = c .before .before .before in
+    let tried = opened .before .before in
+    let can = tried .before .before .before .before .pre .1 in
+    (can .long, (tried .before .if1 .left, entered-low (opened .count .given .1) (tried .enter .ensures) (can .above-to))))
     (λ c. search needs)
-    (λ c. search (needs, loop-begins, save-walk))
-    (λ c κs. search needs)
-    (λ c. search needs)
-    (λ c κs. search needs)
-    (λ c. search needs)
-    (λ c κs. search (needs, save-within))
-    (λ c. search needs)
-    (λ c. search needs)
+    (λ c.
+    let put = c .before .before in
+    let opened = put .before .before .before .before in
+    let tried = opened .before .before in
+    let pre = tried .before .before .before .before .pre in (
+      loop-begins (opened .count .given .1) (tried .enter .ensures) (put .before .before .part-of .ensures) save-walk,
+      can-save-same (pre .1) (c .before .output .given),
+      refl,
+      pre .0,
+    ))
+    (λ c κs. element-there (c .before .loop .inv .0) (c .loop-test .taken))
+    (λ c. c .match2 .keys1)
+    (λ c κs. let looked = c .before .before .before .before in let l = looked .before .before .loop .inv in rw (l .2) (l .1 .long))
+    (λ c. c .match2 .keys2)
+    (λ c κs.
+    let looked = c .before .before .before .before in
+    let l = looked .before .before .loop .inv in
+    (rw (l .3) at (l .0 .slot-entered .level-below), save-within (l .0) (l .1) (l .2)))
+    (λ c. let turn = c .before .before in next-fits (turn .before .loop .inv .0) (turn .loop-test .taken))
+    (λ c. fewer-left (c .before .before .loop-test .taken))
     (λ c.
     let turn = c .before .before in
     let l = turn .before .loop .inv in
     let is = c .before .element-at .ensures in
     ⊎-elim
-    (λ w. (turns-pixel (l .0) (turn .loop-test .taken) is (written-is (w .7) (w .8)) save-walk (w .1 .given .1) (pixel-saved (w .4 .ensures)), l .1, ap length (w .7) ∙ w .4 .ensures .long ∙ l .2))
-    (λ w. (turns-block (l .0) (turn .loop-test .taken) is (written-is (w .7) (w .8)) save-walk (w .1 .given .1) (w .4 .ensures .right), l .1, ap length (w .7) ∙ w .4 .ensures .long ∙ l .2))
+    (λ w. (turns-pixel (l .0) (turn .loop-test .taken) is (written-is (w .7) (w .8)) save-walk (w .1 .given .1) (pixel-saved (w .4 .ensures)), l .1, ap length (w .7) ∙ w .4 .ensures .long ∙ l .2, l .3))
+    (λ w. (turns-block (l .0) (turn .loop-test .taken) is (written-is (w .7) (w .8)) save-walk (w .1 .given .1) (w .4 .ensures .right), l .1, ap length (w .7) ∙ w .4 .ensures .long ∙ l .2, l .3))
     (c .match2 .came))
-    (λ c. search needs)
-    (λ c. search (needs, save-whole))
+    (λ c. c .before .loop .inv .2 ∙ c .before .before .before .output .given)
+    (λ c.
+    let l = c .before .loop .inv in
+    save-whole (c .before .before .before .before .put-entry .ensures) (l .0) (c .loop-test .left) (l .2))

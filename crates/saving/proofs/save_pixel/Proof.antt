@@ -2,7 +2,7 @@
 use borrow.Author.Needs.{needs}
 use mathlib.Core.Path.{ap, _∙_}
 use lib.ListN.{length}
-use Rattle.saving.proofs.EntryWrites.{length-put-entry}
+use Rattle.image.proofs.EntryWrites.{length-put-entry}
 use Rattle.saving.proofs.Saves.{no-room, pixel-put}
 use Rattle.saving.proofs.save_pixel.Statement.{statement}
 use Rattle.saving.proofs.save_pixel.Tie as tie

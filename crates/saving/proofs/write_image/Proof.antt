@@ -2,7 +2,7 @@
 use native.Mathlib.Omega.{arith}
 use borrow.Author.Needs.{needs}
 use Rattle.measures.proofs.Usable.{sizes-valid}
-use Rattle.saving.proofs.EntryWrites.{length-headed}
+use Rattle.image.proofs.EntryWrites.{length-headed}
 use Rattle.saving.proofs.SaveAnswers.{can-save}
 use Rattle.saving.proofs.write_image.Statement.{statement}
 use Rattle.saving.proofs.write_image.Tie as tie

@@ -3,7 +3,7 @@ use native.Mathlib.Omega.{arith}
 use lib.ListN.{length}
 use borrow.Author.Needs.{needs}
 use Rattle.image.specs.Parts.{imageLength}
-use Rattle.image.proofs.Comparisons.{eqb-decides}
+use Rattle.measures.proofs.Decides.{eqb-decides}
 use Rattle.image.proofs.parts.is_well_formed.Statement.{statement}
 use Rattle.image.proofs.parts.is_well_formed.Tie as tie
 

@@ -22,7 +22,7 @@ returns c =
     let s = test .before .before .before .before .before in
     let is : getD (s .args .levels .now) (s .args .at) 0 ≡ 0 = omega (arith, test .if1 .taken, test .before .byte-at .ensures .0) in
     let mark = c .before .before .mark in
-    pixel-marked (s .args .store .now) (s .args .codes .now) (s .args .levels .now) (s .args .sizes) (s .args .at) (s .pre) (mark .last .0) is (mark .result)
+    pixel-marked (s .args .store .now) (s .args .codes .now) (s .args .levels .now) (s .args .sizes) (s .args .at) (s .pre) (mark .last .0) is _
     (rw (code .ensures) at (mark .ensures))
 
 returns-2 : tie.Need-returns-2

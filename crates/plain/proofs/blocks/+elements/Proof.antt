@@ -7,8 +7,7 @@ use Rattle.plain.proofs.blocks.elements.Reads as elements
 use Rattle.plain.proofs.blocks.elements.Kinds as elements-kinds
 use Rattle.plain.proofs.blocks.+elements.Lts-elements as elements-lts
 use Rattle.plain.proofs.blocks.given.Reads as given-reads
-use Rattle.plain.proofs.blocks.pixels.Reads as pixels-reads
-use Rattle.plain.proofs.blocks.sum.Reads as sum-reads
+use Rattle.plain.proofs.blocks.is_marked.Reads as is-marked-reads
 use Rattle.plain.proofs.codes.size_of.Reads as size-of-reads
 use Rattle.plain.proofs.blocks.+elements.{statement}
 use Rattle.plain.proofs.blocks.+elements.Tie.{close}
@@ -25,21 +24,20 @@ elements-below t =
 
 pub +elements-spec : {M : Type 1} → statement M
 +elements-spec = close μ-elements λ t. elements-lts.spec (
-  pixels-reads.Asked,
-  pixels-reads.Learnt,
+  is-marked-reads.Asked,
+  is-marked-reads.Learnt,
   size-of-reads.Asked,
   size-of-reads.Learnt,
   elements-below t,
   elements.Post,
   given-reads.Asked,
   given-reads.Learnt,
-  sum-reads.Asked,
-  sum-reads.Learnt,
 )
     (elements-at t)
     elements.Post
     (λ c κs. search needs)
     (λ c. search needs)
+    (λ c. search needs)
     (λ c κs. search needs)
     (λ c κs. search needs)
     (λ c κs. search needs)
@@ -51,5 +49,7 @@ pub +elements-spec : {M : Type 1} → statement M
     (λ c. search needs)
     (λ c κs. search needs)
     (λ c κs. search needs)
-    (λ c κs. search needs)
+    (λ c. search needs)
+    (λ c. search needs)
+    (λ c. search needs)
     (λ c. search needs)

@@ -28,8 +28,8 @@ returns c =
     asked-damaged (a .args .store .now) (a .args .code) (a .args .sizes) (l .layout-of .result) _ _ (c .before .locate .result) (p .0) (p .1) (l .layout-of .ensures)
     (a .pre .1) (c .before .locate .ensures) (c .if1 .taken)
 
-add-t11 : tie.Need-add-t11
-add-t11 c =
+add-t12 : tie.Need-add-t12
+add-t12 c =
     let s = c .before .before in
     record { fits = omega (arith, s .locate .ensures .bounds (c .before .if1 .left) .deep, locate-requires (s .before) (s .locate .lifetimes) .1) }
 
@@ -43,4 +43,4 @@ returns-2 c =
     (a .pre .1) (s .locate .ensures) (c .before .if1 .left)
 
 pub ask-spec : {M : Type 1} → statement M
-ask-spec = tie.close (tie.spec layout-of-requires locate-requires returns add-t11 returns-2)
+ask-spec = tie.close (tie.spec layout-of-requires locate-requires returns add-t12 returns-2)

@@ -4,6 +4,7 @@ use borrow.Author.Needs.{needs}
 use borrow.Fn.PlainCycle.{Measures}
 use mathlib.Core.Logic.{⊎-elim}
 use Rattle.walks.proofs.Walks.{InLoop, entered-below, loop-begins, turns-pixel, turns-block}
+use Rattle.walks.proofs.LoopTurns.{element-there, next-fits, fewer-left}
 use Rattle.saving.specs.Numbers.{Tallied}
 use Rattle.saving.proofs.Tallies.{tally-walk, pixel-passed, tally-full, tally-barred, tally-whole}
 use Rattle.measures.proofs.slots.wide.Reads as wide
@@ -30,18 +31,18 @@ pub +tally-block-spec : {M : Type 1} → statement M
     (λ c κs. search needs)
     (λ c. search (needs, tally-full))
     (λ c κs. search needs)
-    (λ c. search needs)
-    (λ c. search needs)
+    (λ c. c .match .keys1)
+    (λ c. c .match .keys2)
     (λ c. search (needs, tally-barred))
     (λ c κs. search (needs, entered-below))
     (λ c. search needs)
     (λ c. search (needs, loop-begins, tally-walk))
+    (λ c κs. element-there (c .before .loop .inv) (c .loop-test .taken))
+    (λ c. c .match2 .keys1)
+    (λ c. c .match2 .keys2)
     (λ c κs. search needs)
-    (λ c. search needs)
-    (λ c. search needs)
-    (λ c κs. search needs)
-    (λ c. search needs)
-    (λ c. search needs)
+    (λ c. let turn = c .before .before in next-fits (turn .before .loop .inv) (turn .loop-test .taken))
+    (λ c. fewer-left (c .before .before .loop-test .taken))
     (λ c.
     let turn = c .before .before in
     let l = turn .before .loop .inv in

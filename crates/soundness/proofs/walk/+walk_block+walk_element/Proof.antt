@@ -1,8 +1,9 @@
 -- The proof of the cycle of calls {walk_block, walk_element}: the level falls, and `walk_block` at a level lies between `walk_element` there and below.
 use Prim.Native.Nat.{ℕ, _+_, _-_, _*_}
+use native.Mathlib.Omega.{arith}
 use borrow.Author.Needs.{needs}
 use borrow.Fn.PlainCycle.{Measures}
-use mathlib.Core.Path.{_≡_}
+use mathlib.Core.Path.{_≡_, refl}
 use Rattle.soundness.proofs.BlockWalks.{InBlock, not-opened, block-begins, element-there, next-fits, refused-at, element-can, unsound-at, next-walked, too-long, block-whole}
 use Rattle.soundness.proofs.ElementWalks.{level-zero, past-slots, child-can, child-falls, pixel-walked, block-walked}
 use Rattle.soundness.proofs.walk.walk_block.Reads as walk-block
@@ -40,37 +41,57 @@ pub +walk-block+walk-element-spec : {M : Type 1} → statement M
 +walk-block+walk-element-spec = close μ-walk-block μ-walk-element
     (λ t. walk-block-lts.spec (_, open-block.Learnt, _, slot-part.Learnt, _, first-pass.Learnt, _, element-at.Learnt, _, pass-element.Learnt, _, walk-element.Post, _, block-end.Learnt)
     _ walk-block.Post (Inv-loop t) μ-loop
-    (λ c κs. search needs)
-    (λ c. search needs)
-    (λ c. search needs)
-    (λ c. search (needs, not-opened))
+    (λ c κs. c .before .pre .1)
+    (λ c. c .match .keys1)
+    (λ c. c .match .keys2)
+    (λ c. not-opened (c .before .before .open-block .ensures) (c .enum-told .given .1))
     (λ c κs. search needs)
     (λ c. search needs)
     (λ c κs. search needs)
     (λ c. search needs)
     (λ c. search (needs, block-begins))
-    (λ c κs. search (needs, element-there))
+    (λ c κs. element-there (c .before .loop .inv .1) (c .loop-test .taken))
     (λ c κs. search needs)
-    (λ c. search needs)
-    (λ c. search needs)
-    (λ c. search (needs, refused-at))
-    (λ c κs. search (needs, element-can))
-    (λ c. search needs)
-    (λ c. search needs)
-    (λ c. search (needs, unsound-at))
-    (λ c. search (needs, next-fits))
+    (λ c. c .match2 .keys1)
+    (λ c. c .match2 .keys2)
+    (λ c.
+    let looked = c .before .before .before in
+    let turn = looked .before .before in
+    refused-at (turn .loop .inv .1) (looked .before .loop-test .taken) (looked .element-at .ensures) refl (c .enum-told2 .given .1) (c .before .before .pass-element .ensures))
+    (λ c κs.
+    let passed = c .before in
+    let looked = passed .before .before .before in
+    let l = looked .before .before .loop .inv in
+    (omega (arith, l .0), element-can (l .1) (looked .before .loop-test .taken) (looked .element-at .ensures) (passed .next .given .1) (passed .before .before .pass-element .ensures)))
+    (λ c. c .match3 .keys1)
+    (λ c. c .match3 .keys2)
+    (λ c.
+    let walked = c .before .before in
+    let passed = walked .before .before in
+    let looked = passed .before .before .before in
+    unsound-at (looked .before .before .loop .inv .1) (looked .before .loop-test .taken) (looked .element-at .ensures) (passed .next .given .1)
+    (passed .before .before .pass-element .ensures) refl (c .enum-told3 .given .1) (walked .walk-element .ensures))
+    (λ c.
+    let passed = c .before .before .before .before .before in
+    let looked = passed .before .before .before in
+    record { fits = next-fits (looked .before .before .loop .inv .1) (looked .before .loop-test .taken) })
     (λ c. search needs)
     (λ c.
     let walked = c .before .before .before in
     let passed = walked .before .before in
-    let looked = passed .before .before .before in (
-      search needs,
-      next-walked (looked .before .before .loop .inv .1) (looked .before .loop-test .taken) (looked .element-at .ensures) (passed .next .given .1)
+    let looked = passed .before .before .before in
+    let l = looked .before .before .loop .inv in (
+      l .0,
+      next-walked (l .1) (looked .before .loop-test .taken) (looked .element-at .ensures) (passed .next .given .1)
           (passed .before .before .pass-element .ensures) (c .before .more .given .1) (walked .walk-element .ensures),
     ))
-    (λ c κs. search needs)
-    (λ c. search (needs, too-long))
-    (λ c. search (needs, block-whole)))
+    (λ c κs. c .before .loop .inv .1 .can .level-to)
+    (λ c.
+    let ended = c .before .before in
+    too-long (ended .before .before .loop .inv .1) (ended .before .loop-test .left) (ended .block-end .ensures) refl (c .if1 .taken))
+    (λ c.
+    let ended = c .before .before in
+    block-whole (ended .before .before .loop .inv .1) (ended .before .loop-test .left) (ended .block-end .ensures) refl (c .if1 .left)))
     λ t. walk-element-lts.spec (_, see-pixel.Learnt, _, wide.Learnt, _, walk-block.Post) _ walk-element.Post
     (λ c. search needs)
     (λ c κs. search needs)

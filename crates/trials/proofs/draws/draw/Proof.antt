@@ -5,4 +5,13 @@ use Rattle.trials.proofs.draws.draw.Statement.{statement}
 use Rattle.trials.proofs.draws.draw.Tie as tie
 
 pub draw-spec : {M : Type 1} → statement M
-draw-spec = tie.close (tie.spec (λ c. search needs) (λ c. search needs) (λ c. search needs) (λ c. search needs) (λ c. search needs) (λ c. search (needs, mod-lt)))
+draw-spec =
+    tie.close
+    (tie.spec
+    (λ c. search needs)
+    (λ c. search needs)
+    (λ c. search needs)
+    (λ c. search needs)
+    (λ c. search needs)
+    (λ c. search needs)
+    (λ c. search (needs, mod-lt)))

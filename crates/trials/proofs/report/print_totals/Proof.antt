@@ -5,10 +5,10 @@ use Rattle.trials.proofs.report.print_totals.Statement.{statement}
 use Rattle.trials.proofs.report.print_totals.Tie as tie
 
 abbrev Inv-loop : tie.InvT-loop
-Inv-loop totals refusal₀ t5 t6 refusal = refusal ≤ 13
+Inv-loop totals refusal₀ t5 t6 t7 refusal = refusal ≤ 13
 
 abbrev μ-loop : tie.MeasureT-loop
-μ-loop totals refusal₀ t5 t6 refusal = 13 - refusal
+μ-loop totals refusal₀ t5 t6 t7 refusal = 13 - refusal
 
 pub print-totals-spec : {M : Type 1} → statement M
 print-totals-spec =
@@ -24,6 +24,10 @@ print-totals-spec =
     (λ c. search needs)
     (λ c. search needs)
     (λ c κs. search needs)
+    (λ c. search needs)
+    (λ c. search needs)
+    (λ c. search needs)
+    (λ c. search needs)
     (λ c κs. search needs)
     (λ c. search needs)
     (λ c. search needs)

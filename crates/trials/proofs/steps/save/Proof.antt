@@ -1,4 +1,4 @@
--- `trials::steps::save` is safe: the parts that are lent have the length drawn.
+-- `trials::steps::save` is safe: the part that is lent has the length drawn.
 use native.Mathlib.Omega.{arith}
 use lib.ListN.{length-take}
 use borrow.Author.Needs.{needs}
@@ -15,11 +15,7 @@ save-spec =
     (λ c. simp length-take (omega arith))
     (λ c κs. search needs)
     (λ c κs. search needs)
-    (λ c. search needs)
-    (λ c. simp length-take (omega arith))
     (λ c κs. search needs)
     (λ c κs. search needs)
     (λ c κs. search needs)
-    (λ c κs. search needs)
-    (λ c. search needs)
     (λ c. search needs))

@@ -2,9 +2,24 @@
 use borrow.Author.Needs.{needs}
 use borrow.Author.Tests.{ltb-true}
 use Rattle.update.specs.Changed.{comes}
-use Rattle.update.proofs.MarkAndClear.{marked, full}
+use Rattle.update.proofs.MarkAndClear.{marked, already-marked, full, damaged}
 use Rattle.update.proofs.marks.mark.Statement.{statement}
 use Rattle.update.proofs.marks.mark.Tie as tie
+
+abbrev start : tie.After-change-pixel → tie.Start
+start m = m .before .before .before .before .before
+
+returns : tie.Need-returns
+returns c = let e = c .before .before in let m = e .before .before .before in marked (start m .pre .0) (rw (← (e .ending .ensures), c .enum-told .given .1) at (m .change-pixel .ensures))
+
+returns-2 : tie.Need-returns-2
+returns-2 c = let e = c .before .before in let m = e .before .before .before in already-marked (start m .pre .0 .0) (rw (← (e .ending .ensures), c .enum-told2 .given .1) at (m .change-pixel .ensures))
+
+returns-3 : tie.Need-returns-3
+returns-3 c = let e = c .before .before in let m = e .before .before .before in full (start m .pre .0) (rw (← (e .ending .ensures), c .enum-told3 .given .1) at (m .change-pixel .ensures))
+
+returns-4 : tie.Need-returns-4
+returns-4 c = let e = c .before .before in let m = e .before .before .before in damaged (rw (← (e .ending .ensures), c .enum-told4 .given .1) at (m .change-pixel .ensures)) (λ set never. never)
 
 pub mark-spec : {M : Type 1} → statement M
 mark-spec =
@@ -18,10 +33,10 @@ mark-spec =
     (λ c. search needs)
     (λ c. search needs)
     (λ c. search needs)
-    (λ c. let e = c .before .before in marked (e .before .before .before .before .before .before .before .before .pre .0) (rw (← (e .ending .ensures), c .enum-told .given .1) at (e .before .before .before .change-pixel .ensures)))
+    returns
     (λ c. search needs)
-    (λ c. let e = c .before .before in rw (← (e .ending .ensures), c .enum-told2 .given .1) at (e .before .before .before .change-pixel .ensures))
+    returns-2
     (λ c. search needs)
-    (λ c. let e = c .before .before in full (e .before .before .before .before .before .before .before .before .pre .0) (rw (← (e .ending .ensures), c .enum-told3 .given .1) at (e .before .before .before .change-pixel .ensures)))
+    returns-3
     (λ c. search needs)
-    (λ c. let e = c .before .before in rw (← (e .ending .ensures), c .enum-told4 .given .1) at (e .before .before .before .change-pixel .ensures)))
+    returns-4)

@@ -1,0 +1,92 @@
+// What the calls answer: a result or a refusal, and 01's number for each.
+ghost use mathlib.Core.Path.{_≡_};
+ghost use Rattle.answers.specs.Answer.{answer, numberOf};
+
+pub mod judging;
+
+// 01 "Who is refused, and how": the refusals, in the order of their numbers, 1 to 13.
+pub enum Refusal {
+    BeyondLimits,
+    StoreTooShort,
+    NoRegister,
+    OffPanel,
+    AlreadyMarked,
+    Full,
+    NotMarked,
+    WindowReversed,
+    OutputTooShort,
+    NotAnImage,
+    ImageUnlike,
+    ImageDamaged,
+    StoreDamaged,
+}
+
+// 01's number of a refusal.
+pub fn number_of(refusal: Refusal) -> u32
+    ensures { λ r. ⌜ r ≡ numberOf refusal ⌝ }
+{
+    match refusal {
+        Refusal::BeyondLimits => 1,
+        Refusal::StoreTooShort => 2,
+        Refusal::NoRegister => 3,
+        Refusal::OffPanel => 4,
+        Refusal::AlreadyMarked => 5,
+        Refusal::Full => 6,
+        Refusal::NotMarked => 7,
+        Refusal::WindowReversed => 8,
+        Refusal::OutputTooShort => 9,
+        Refusal::NotAnImage => 10,
+        Refusal::ImageUnlike => 11,
+        Refusal::ImageDamaged => 12,
+        Refusal::StoreDamaged => 13,
+    }
+}
+
+// What make, mark, clear and load answer: done, or why not.
+pub enum Outcome {
+    Done,
+    Refused(Refusal),
+}
+
+// 01's number of an outcome, 0 where the call was accepted.
+pub fn refusal_of(outcome: Outcome) -> u32
+    ensures { λ r. ⌜ r ≡ answer outcome .refusal ⌝ }
+{
+    match outcome {
+        Outcome::Done => 0,
+        Outcome::Refused(refusal) => number_of(refusal),
+    }
+}
+
+// What ask answers.
+pub enum Asking {
+    Answered { marked: bool, opened: usize },
+    Refused(Refusal),
+}
+
+// What count answers.
+pub enum Counting {
+    Found { found: u32, opened: u32 },
+    Refused(Refusal),
+}
+
+// What list answers; `Short` is refusal 9, with the words needed.
+pub enum Listing {
+    Found { found: u32, opened: u32 },
+    Short(u32),
+    Refused(Refusal),
+}
+
+// What save answers; `Short` is refusal 9, with the bytes needed.
+pub enum Saving {
+    Saved(usize),
+    Short(usize),
+    Refused(Refusal),
+}
+
+// What check answers.
+pub enum Checking {
+    Sound,
+    Unsound,
+    Refused(Refusal),
+}

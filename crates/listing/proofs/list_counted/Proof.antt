@@ -1,0 +1,30 @@
+-- `listing::list_counted` meets its contract: the output is long enough, and the walk from the root writes all that 01 lists of the set.
+use borrow.Author.Needs.{needs}
+use Rattle.measures.proofs.Usable.{sizes-valid, layout-fits}
+use Rattle.listing.proofs.ListEnds.{too-short, not-listed, listed}
+use Rattle.listing.proofs.list_counted.Statement.{statement}
+use Rattle.listing.proofs.list_counted.Tie as tie
+
+pub list-counted-spec : {M : Type 1} → statement M
+list-counted-spec =
+    tie.close
+    (tie.spec
+    (λ c κs. search needs)
+    (λ c. search (needs, too-short))
+    (λ c κs. search (needs, sizes-valid))
+    (λ c κs. search needs)
+    (λ c κs. search (needs, layout-fits))
+    (λ c κs. search needs)
+    (λ c. search needs)
+    (λ c. search needs)
+    (λ c. search needs)
+    (λ c.
+    let told = c .before .before .before in
+    let walked = told .before .before .before in
+    let corners = walked .before .before in
+    let test = corners .before .before in
+    let a = test .before .before .before .before in
+    listed (a .pre .0) (corners .before .layout-of .ensures) (corners .corners-of .ensures) (a .pre .1) (test .before .wide .ensures) (test .if1 .left) (walked .list-root .ensures)
+    (told .within .ensures) (c .before .opened .given .1))
+    (λ c. search needs)
+    (λ c. search (needs, not-listed)))

@@ -1,0 +1,11 @@
+pub mod BlockSize
+pub mod EntriesFrom
+pub mod FirstEntry
+pub mod ForestRead
+pub mod ElementRead
+pub mod Quarters
+pub mod FirstElement
+pub mod QuarterRead
+pub mod QuartersRead
+pub mod PixelNumber
+pub mod RootRead

@@ -1,0 +1,2 @@
+pub mod PixelCount
+pub mod Reading
