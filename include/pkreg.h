@@ -25,9 +25,9 @@
 
 /* The version; the Makefile takes it from here. A new MAJOR gives the shared library a new name, so no program meets one that it was not
    linked for. */
-#define PK_VERSION "1.0.0"
+#define PK_VERSION "1.1.0"
 #define PK_VERSION_MAJOR 1
-#define PK_VERSION_MINOR 0
+#define PK_VERSION_MINOR 1
 #define PK_VERSION_PATCH 0
 
 #include <stddef.h>
@@ -104,8 +104,9 @@ pk_answer pk_ask(const uint32_t *store, size_t words, uint32_t x, uint32_t y);
    of the tree that share a pixel with it. Refusals 3, 4, 8, 13. */
 pk_answer pk_count(const uint32_t *store, size_t words, uint32_t x0, uint32_t y0, uint32_t x1, uint32_t y1);
 
-/* As pk_count, and writes the code of each found pixel once, in rising order, to the first words of the output. An accepted call writes no
-   word past the number that it returns, also where the store is damaged. With 9, first is the words needed; an output of `most` words is
+/* As pk_count, and writes the code of each found pixel once to the first words of the output, in rising order: for the same pixels and
+   window the same words, so the list can be run beside a frame stored by code. An accepted call writes no word past the number that it
+   returns, also where the store is damaged. With 9, first is the words needed; an output of `most` words is
    always long enough. Refusals 3, 4, 8, 9, 13. */
 pk_answer pk_list(const uint32_t *store, size_t words, uint32_t x0, uint32_t y0, uint32_t x1, uint32_t y1,
                   uint32_t *output, size_t output_words);

@@ -46,7 +46,7 @@ fn list_pixel(corners: Corners, code: u32, output: &mut [u32], found: u32) -> u3
     wrapping_add_u32(found, 1)
 }
 
-// As count_block, and each found code is written once, in rising order.
+// As count_block, and each found code is written once, in ascending order, since a block's elements ascend.
 fn list_block(
     store: &[u32],
     range: RangeQuery,

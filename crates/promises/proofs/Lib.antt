@@ -7,3 +7,4 @@ pub mod OnSound
 pub mod SpoiledRoot
 pub mod ImageTests
 pub mod Keeping
+pub mod Rising

@@ -95,7 +95,7 @@ Counts words window = Walks words (Accepts (sizesOf words .most) (slotsIn words)
 abbrev pub CountMeets : List ℕ → ℕ → ℕ → ℕ → ℕ → Answer → Type 0
 CountMeets words x0 y0 x1 y1 given = OfWindow words x0 y0 x1 y1 (Counts words (windowGiven x0 y0 x1 y1)) (effect given words words)
 
--- list: as count, with each found code written once, in rising order, to the first words of the output
+-- list: as count, with each found code written once to the first words of the output; 02, P1: in ascending order, as a set is, so that every word is fixed
 abbrev pub Lists : List ℕ → Window → Effect → Type 0
 Lists words window =
     Walks words (WrittenOrShort (sizesOf words .most) (slotsIn words)) SameLength (λ set. WritesOrShort (foundAndOpened words window set) (found window set))

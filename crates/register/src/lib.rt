@@ -81,7 +81,7 @@ pub fn count(store: &[u32], x0: u32, y0: u32, x1: u32, y1: u32) -> Counting
     }
 }
 
-// 01: as count, and each found code is written once to the first words of the output, in rising order.
+// 01: as count, and each found code is written once to the first words of the output; 02, P1: in ascending order.
 pub fn list(store: &[u32], x0: u32, y0: u32, x1: u32, y1: u32, output: &mut [u32]) -> Listing
     ensures { λ r. ⌜ ListMeets (now (store .entry)) x0 y0 x1 y1 (now (output .entry)) (now (output .exit)) (listAnswer r) ⌝ }
 {

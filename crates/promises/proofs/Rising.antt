@@ -1,0 +1,48 @@
+-- 02, P1: list writes its codes in ascending order, so that the output for a window is fixed to the last word.
+use Prim.Native.Nat.{ℕ, suc, _≤_}
+use native.Mathlib.Omega.{arith}
+use mathlib.Core.Path.{_≡_, ap, refl, subst, sym, _∙_}
+use mathlib.Core.Bool.{Bool, true, false, cond}
+use mathlib.Core.List.{List, [], _∷_}
+use lib.ListN.{length, take, drop}
+use lib.Seq.{take-at}
+use Rattle.pktree.specs.Lists.{select}
+use Rattle.pktree.specs.PixelSet.{member, Ascending}
+use Rattle.pktree.specs.Elements.{unlabelled}
+use Rattle.pktree.specs.Tree.{tree, pixels}
+use Rattle.pktree.specs.Window.{Window, inWindow, found}
+use Rattle.pktree.proofs.Pixels.{ascending-lower, pixels-of-tree-are-set}
+use Rattle.pktree.proofs.Unlabelled.{pixels-unlabelled}
+use Rattle.measures.specs.Sizes.{panelOf, sizesOf}
+use Rattle.store.specs.Sound.{Holds}
+use Rattle.promises.specs.Answer.{Answer}
+use Rattle.promises.specs.Effect.{CornersOn, InOrder}
+use Rattle.promises.specs.Calls.{windowGiven, ListMeets}
+use Rattle.promises.proofs.Answers.{first-of}
+use Rattle.promises.proofs.OnSound.{list-writes}
+
+-- what passes a test is in the order that it was in
+select-ascends : (test : ℕ → Bool) (from : ℕ) (set : List ℕ) → Ascending from set → Ascending from (select test set)
+select-ascends test from [] h = tt
+select-ascends test from (c ∷ set) h = go (test c) (select-ascends test (suc c) set (h .1))
+  where
+    go : (b : Bool) → Ascending (suc c) (select test set) → Ascending from (cond b (c ∷ select test set) (select test set))
+    go true rest = (h .0, rest)
+    go false rest = ascending-lower from (suc c) (select test set) (omega (arith, h .0)) rest
+
+-- a set that a store holds ascends
+held-ascends : {words set : List ℕ} → Holds words set → Ascending 0 set
+held-ascends {words} {set} h =
+    let is : unlabelled (h .placed) ≡ tree (panelOf (sizesOf words)) (member set) =
+    h .sound .is-tree ∙ ap (λ (l : List ℕ). tree (panelOf (sizesOf words)) (member l)) (h .set-is) in
+    subst (Ascending 0) (ap pixels (sym is) ∙ pixels-unlabelled (h .placed) ∙ h .set-is) (pixels-of-tree-are-set (panelOf (sizesOf words)) (member set) .ascending)
+
+pub list-rises : {words set : List ℕ} → Holds words set → {a : Answer} {x0 y0 x1 y1 : ℕ} → CornersOn words x0 y0 x1 y1 → InOrder x0 y0 x1 y1 → {before after : List ℕ}
+    → ListMeets words x0 y0 x1 y1 before after a → length (found (windowGiven x0 y0 x1 y1) set) ≤ length before → Ascending 0 (take (a .first) after)
+list-rises {set = set} holds {a} {x0} {y0} {x1} {y1} on ordered {before} {after} meets room =
+    let window : Window = windowGiven x0 y0 x1 y1 in
+    let w = list-writes holds on ordered meets room in
+    let written : take (a .first) after ≡ found window set =
+    ap (λ (n : ℕ). take n after) (first-of (w .0)) ∙ ap (take (length (found window set))) (w .1)
+    ∙ take-at (found window set) (drop (length (found window set)) before) (length (found window set)) refl in
+    subst (Ascending 0) (sym written) (select-ascends (inWindow window) 0 set (held-ascends holds))
