@@ -13,11 +13,11 @@ use Rattle.promises.specs.Effect.{Effect, effect, Returns, passed, stopp
 use Rattle.promises.specs.Walk.{Accepts}
 use Rattle.promises.specs.Change.{Done, Disabled}
 use Rattle.promises.specs.Output.{SameLength, WrittenOrShort}
-use Rattle.promises.specs.Calls.{asked, slotsIn, MakeMeets, MarkMeets, ClearMeets, LoadMeets, AskMeets, CountMeets, ListMeets, SaveMeets}
+use Rattle.promises.specs.Calls.{asked, slotsIn, MakeMeets, MarkMeets, ClearMeets, LoadMeets, FillMeets, AskMeets, CountMeets, ListMeets, SaveMeets}
 use Rattle.promises.proofs.Answers.{refusal-of, first-of, second-of, Zeros, zeros-beside}
 use Rattle.promises.proofs.Ladder.{number-is, CheckRefused, refused-or, pixel-ends, window-ends}
 
--- what make, mark, clear and load leave of the store, and answer
+-- what make, mark, clear, load and fill leave of the store, and answer
 pub record Leaves (sizes : Sizes) (e : Effect) : Type 0 where
   pub values : Zeros (e .answer)
   pub damaged : e .answer .refusal ≡ 13 → getD (e .after) 0 0 ≡ 0
@@ -78,6 +78,13 @@ module _ {before after : List ℕ} {a : Answer} where
   load-leaves (passed u (passed w (stopped f r))) = returned-leaves (omega arith) r
   load-leaves (passed u (passed w (passed t (stopped f r)))) = returned-leaves (omega arith) r
   load-leaves (passed u (passed w (passed t (passed s l)))) = done-leaves (l .loaded .done)
+
+  pub fill-leaves : {codes : List ℕ} → FillMeets before after codes a → Leaves (sizesOf before) (effect a before after)
+  fill-leaves (stopped f r) = returned-leaves (omega arith) r
+  fill-leaves (passed u (stopped f r)) = returned-leaves (omega arith) r
+  fill-leaves (passed u (passed on (stopped f r))) = returned-leaves (omega arith) r
+  fill-leaves (passed u (passed on (passed room (stopped f r)))) = returned-leaves (omega arith) r
+  fill-leaves (passed u (passed on (passed room (passed up b)))) = done-leaves (b .done)
 
 -- what ask and count answer: values of at most so much, zeros beside a refusal
 pub record Bounded (first second : ℕ) (a : Answer) : Type 0 where

@@ -5,6 +5,9 @@ use mathlib.Core.Path.{_≡_, sym, subst, _∙_}
 use mathlib.Core.Logic.{_⊎_, inl, inr, ⊎-elim, _↔_}
 use mathlib.Core.List.{List, []}
 use lib.ListN.{length}
+use Rattle.pktree.specs.Lists.{Every}
+use Rattle.pktree.specs.Panel.{OnPanel}
+use Rattle.pktree.specs.PixelSet.{Ascending, PixelSet}
 use Rattle.measures.specs.Sizes.{sizesOf, storeWords, ValidSizes, UsableStore}
 use Rattle.promises.specs.Effect.{HasPixelOn, CornersOn, Effect, effect, passed, stopped, OfPixel, OfWindow, InOrder}
 use Rattle.image.specs.Judged.{WellFormed, FitsRegister, ImageOfSome}
@@ -14,7 +17,7 @@ use Rattle.promises.specs.Answer.{Answer, accepted, refused}
 use Rattle.promises.specs.Walk.{Walks}
 use Rattle.promises.specs.Change.{Becomes}
 use Rattle.promises.specs.Output.{WrittenOrShort}
-use Rattle.promises.specs.Calls.{asked, MakeMeets, MarkMeets, ClearMeets, Loaded, LoadMeets, AskMeets, CountMeets, ListMeets, SaveMeets, CheckMeets}
+use Rattle.promises.specs.Calls.{asked, MakeMeets, MarkMeets, ClearMeets, Loaded, LoadMeets, FillMeets, AskMeets, CountMeets, ListMeets, SaveMeets, CheckMeets}
 use Rattle.promises.proofs.Answers.{refusal-of, first-of}
 use Rattle.promises.proofs.Holding.{Holding, now-holding}
 use Rattle.promises.proofs.Ladder.{number-is, where-holds, never, exactly, then-exactly, accepted-passed}
@@ -159,6 +162,47 @@ else-unchanged (passed u (stopped f r)) none = r .same
 else-unchanged (passed u (passed w (stopped f r))) none = r .same
 else-unchanged (passed u (passed w (passed t (stopped f r)))) none = r .same
 else-unchanged (passed u (passed w (passed t (passed s l)))) none = absurd (none (record { set = l .set; has-image = l .has-image }))
+
+-- fill: 3, 4, 6, 14, and when it is accepted
+pub record FillRefusals (before codes : List ℕ) (a : Answer) : Type 0 where
+  pub unusable : (a .refusal ≡ 3) ↔ (UsableStore before → ⊥)
+  pub off-panel : (a .refusal ≡ 4) ↔ (UsableStore before × (Every (OnPanel (panelIn before)) codes → ⊥))
+  pub too-many : (a .refusal ≡ 6) ↔ (UsableStore before × (Every (OnPanel (panelIn before)) codes × (length codes ≤ mostIn before → ⊥)))
+  pub not-ascending : (a .refusal ≡ 14)
+      ↔ (UsableStore before × (Every (OnPanel (panelIn before)) codes × (length codes ≤ mostIn before × (Ascending 0 codes → ⊥))))
+  pub filled : (a .refusal ≡ 0) ↔ (UsableStore before × (PixelSet (panelIn before) codes × (length codes ≤ mostIn before)))
+
+module _ {before after codes : List ℕ} {a : Answer} (meets : FillMeets before after codes a) where
+  -- a set that the register can hold is accepted, and held
+  pub set-filled : UsableStore before → PixelSet (panelIn before) codes → length codes ≤ mostIn before → Holding (sizesOf before) codes a after
+  set-filled u set room = now-holding (where-holds (where-holds (where-holds (where-holds meets u) (set .on-panel)) room) (set .ascending))
+
+  not-filled : {number : ℕ} → (0 ≡ number → ⊥) → Becomes (sizesOf before) codes (effect a before after) → a .refusal ≡ number → ⊥
+  not-filled other b z = other (sym (refusal-of (b .done .done)) ∙ z)
+
+  pub fill-refusals : FillRefusals before codes a
+  fill-refusals = record {
+    unusable = exactly (never (omega arith) (never (omega arith) (never (omega arith) (not-filled (omega arith))))) meets;
+    off-panel = then-exactly (omega arith) (exactly (never (omega arith) (never (omega arith) (not-filled (omega arith))))) meets;
+    too-many = then-exactly (omega arith) (then-exactly (omega arith) (exactly (never (omega arith) (not-filled (omega arith))))) meets;
+    not-ascending = then-exactly (omega arith) (then-exactly (omega arith) (then-exactly (omega arith) (exactly (not-filled (omega arith))))) meets;
+    filled = (
+      λ z. let u = accepted-passed (omega arith) meets z in
+          let on = accepted-passed (omega arith) (u .1) z in
+          let room = accepted-passed (omega arith) (on .1) z in
+          (u .0, (record { ascending = accepted-passed (omega arith) (room .1) z .0; on-panel = on .0 }, room .0)),
+      λ c. refusal-of (set-filled (c .0) (c .1 .0) (c .1 .1) .done),
+    );
+  }
+
+-- fill leaves the store where the codes are no set that it can hold
+pub else-unfilled : {before after codes : List ℕ} {a : Answer} → FillMeets before after codes a
+    → (PixelSet (panelIn before) codes → length codes ≤ mostIn before → ⊥) → after ≡ before
+else-unfilled (stopped f r) none = r .same
+else-unfilled (passed u (stopped f r)) none = r .same
+else-unfilled (passed u (passed on (stopped f r))) none = r .same
+else-unfilled (passed u (passed on (passed room (stopped f r)))) none = r .same
+else-unfilled (passed u (passed on (passed room (passed up b)))) none = absurd (none (record { ascending = up; on-panel = on }) room)
 
 -- check: 3, yes and no
 pub record CheckAnswers (words : List ℕ) (a : Answer) : Type 0 where

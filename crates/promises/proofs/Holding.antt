@@ -1,4 +1,4 @@
--- What make, mark, clear and load leave where they are done.
+-- What make, mark, clear, load and fill leave where they are done.
 use Prim.Native.Nat.{ℕ}
 use mathlib.Core.Path.{_≡_}
 use mathlib.Core.List.{List}

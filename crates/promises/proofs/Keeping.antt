@@ -16,10 +16,11 @@ use Rattle.store.specs.Sound.{Holds}
 use Rattle.image.specs.Parts.{pixelsOf}
 use Rattle.promises.specs.Answer.{Answer}
 use Rattle.promises.specs.Effect.{effect}
-use Rattle.promises.specs.Calls.{Marks, MarkMeets, Clears, ClearMeets, LoadMeets}
+use Rattle.promises.specs.Calls.{Marks, MarkMeets, Clears, ClearMeets, LoadMeets, FillMeets}
 use Rattle.promises.proofs.Ladder.{where-holds, where-fails}
-use Rattle.promises.proofs.Exactly.{image-loaded, else-unchanged}
-use Rattle.promises.specs.Survivors.{mark, clear, load, isReplaced, next}
+use Rattle.promises.proofs.Exactly.{image-loaded, else-unchanged, set-filled, else-unfilled}
+use Rattle.promises.specs.Survivors.{mark, clear, load, fill, isReplaced, isFilled, next}
+use Rattle.promises.proofs.SetTests.{set-says, set-passes}
 use Rattle.promises.proofs.ImageTests.{test-says, some-passes}
 
 -- the store holds this set, and is of these sizes
@@ -86,3 +87,14 @@ load-next before after bytes a set h m = go (isReplaced (sizesOf before) bytes) 
     go false p =
         let valid = h .holds .sound .usable .valid in
         same-words (else-unchanged m (λ s. both (some-passes (panelOf (sizesOf before)) (sizesOf before .most) bytes (valid .panel) (valid .most-to) s) p)) h
+
+pub fill-next : (before after codes : List ℕ) (a : Answer) (set : List ℕ) → InStep (sizesOf before) set before → FillMeets before after codes a
+    → InStep (sizesOf before) (next (sizesOf before) set (fill codes)) after
+fill-next before after codes a set h m = go (isFilled (sizesOf before) codes) refl
+  where
+    go : (p : Bool) → isFilled (sizesOf before) codes ≡ p → InStep (sizesOf before) (cond p codes set) after
+    go true p =
+        let (on, room) = set-says (panelOf (sizesOf before)) (sizesOf before .most) codes p in
+        let d = set-filled m (h .holds .sound .usable) on room in
+        record { holds = d .holds; sized = d .sizes-are }
+    go false p = same-words (else-unfilled m (λ on room. both (set-passes (panelOf (sizesOf before)) (sizesOf before .most) codes on room) p)) h

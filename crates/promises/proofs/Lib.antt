@@ -5,6 +5,7 @@ pub mod Exactly
 pub mod AnyWords
 pub mod OnSound
 pub mod SpoiledRoot
+pub mod SetTests
 pub mod ImageTests
 pub mod Keeping
 pub mod Rising

@@ -1,4 +1,4 @@
--- 01 "Calls": what each of the nine calls promises. A line `P else a then rest` is a check: where P fails the call returns a and changes nothing.
+-- 01 "Calls" and 02: what each of the ten calls promises. A line `P else a then rest` is a check: where P fails the call returns a and changes nothing.
 use Prim.Native.Nat.{ℕ, _≤_, _<_}
 use mathlib.Core.Path.{_≡_}
 use mathlib.Core.Logic.{_⊎_}
@@ -6,7 +6,9 @@ use mathlib.Core.Bool.{false, true}
 use mathlib.Core.List.{List, []}
 use lib.ListN.{length}
 use Rattle.morton.specs.Code.{codeOf}
-use Rattle.pktree.specs.PixelSet.{member, added, removed}
+use Rattle.pktree.specs.Lists.{Every}
+use Rattle.pktree.specs.Panel.{OnPanel}
+use Rattle.pktree.specs.PixelSet.{member, Ascending, added, removed}
 use Rattle.pktree.specs.Tree.{tree}
 use Rattle.pktree.specs.Window.{openedByPixel, Window, found, openedByWindow}
 use Rattle.pktree.specs.Image.{image}
@@ -65,6 +67,17 @@ Loads words bytes =
 
 abbrev pub LoadMeets : List ℕ → List ℕ → List ℕ → Answer → Type 0
 LoadMeets before after bytes given = (UsableStore before else refused 3 then Loads before bytes) (effect given before after)
+
+-- 02, P2: fill (store, codes): a register of the same sizes that holds these codes, strictly ascending and at most N; on words 0 to 3 it relies as load does
+abbrev pub Fills : List ℕ → List ℕ → Effect → Type 0
+Fills words codes =
+    Every (OnPanel (panelOf (sizesOf words))) codes else refused 4 then
+    length codes ≤ sizesOf words .most else refused 6 then
+    Ascending 0 codes else refused 14 then
+    Becomes (sizesOf words) codes
+
+abbrev pub FillMeets : List ℕ → List ℕ → List ℕ → Answer → Type 0
+FillMeets before after codes given = (UsableStore before else refused 3 then Fills before codes) (effect given before after)
 
 -- ask, count and check are lent the store for reading only, so no word of it changes
 

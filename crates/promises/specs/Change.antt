@@ -1,4 +1,4 @@
--- What make, mark, clear and load leave of the store.
+-- What make, mark, clear, load and fill leave of the store.
 use Prim.Native.Nat.{ℕ}
 use mathlib.Core.Path.{_≡_}
 use mathlib.Core.List.{List}

@@ -4,5 +4,6 @@ pub mod Walk
 pub mod Change
 pub mod Output
 pub mod Calls
+pub mod SetTest
 pub mod ImageTest
 pub mod Survivors

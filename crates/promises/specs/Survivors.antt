@@ -11,9 +11,10 @@ use Rattle.pktree.specs.PixelSet.{member, added, removed}
 use Rattle.measures.specs.declared.sizes.Sizes.{Sizes}
 use Rattle.measures.specs.Sizes.{panelOf}
 use Rattle.image.specs.Parts.{pixelsOf}
+use Rattle.promises.specs.SetTest.{isSetOf}
 use Rattle.promises.specs.ImageTest.{isImageOf}
 
--- a call with its arguments, image bytes or output
+-- a call with its arguments, image bytes, codes or output
 pub data Call : Type 0 where
   mark : ℕ → ℕ → Call
   clear : ℕ → ℕ → Call
@@ -22,6 +23,7 @@ pub data Call : Type 0 where
   list : ℕ → ℕ → ℕ → ℕ → List ℕ → Call
   save : List ℕ → Call
   load : List ℕ → Call
+  fill : List ℕ → Call
   check : Call
 
 -- 01: mark adds a pixel that is on the panel, not yet in the set, and when the set has fewer than N
@@ -37,6 +39,10 @@ isRemoved sizes set x y = isPixel (panelOf sizes) x y && member set (codeOf x y)
 abbrev pub isReplaced : Sizes → List ℕ → Bool
 isReplaced sizes bytes = isImageOf (panelOf sizes) (sizes .most) bytes (pixelsOf bytes)
 
+-- 02, P2: fill replaces the set by the slice when it ascends strictly, is all on the panel and has at most N codes
+abbrev pub isFilled : Sizes → List ℕ → Bool
+isFilled sizes codes = isSetOf (panelOf sizes) (sizes .most) codes
+
 -- what a call makes of the set; all else leaves it
 abbrev pub next : Sizes → List ℕ → Call → List ℕ
 next sizes set (mark x y) = cond (isAdded sizes set x y) (added (codeOf x y) set) set
@@ -46,6 +52,7 @@ next sizes set (count x0 y0 x1 y1) = set
 next sizes set (list x0 y0 x1 y1 output) = set
 next sizes set (save output) = set
 next sizes set (load bytes) = cond (isReplaced sizes bytes) (pixelsOf bytes) set
+next sizes set (fill codes) = cond (isFilled sizes codes) codes set
 next sizes set check = set
 
 abbrev pub surviving : Sizes → List ℕ → List Call → List ℕ
