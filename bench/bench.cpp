@@ -1,14 +1,15 @@
 // Times the calls of pkreg beside five other sets of pixels on the same seeded work, and stops if any of them finds another number.
 // Usage: bench [--pixels N] [--seed S]                                        the tables
-//        bench --only NAME [--panel spread|crowded] [--pixels N] [--k K]      one kind of call on pkreg alone, for callgrind
+//        bench --only NAME [--panel spread|crowded] [--pixels N] [--k K]      one kind of call on pkreg alone, for callgrind;
+//                                                                             fill-c++ is the fill of build.hpp
 #include "sets.hpp"
 
 #include <chrono>
 #include <map>
 
-enum Operation { MARK, ASK, COUNT_SMALL, COUNT_MEDIUM, COUNT_SPOT, COUNT_WHOLE, LIST, SAVE, CLEAR, LOAD, LIST_WHOLE, OPERATIONS };
+enum Operation { MARK, ASK, COUNT_SMALL, COUNT_MEDIUM, COUNT_SPOT, COUNT_WHOLE, LIST, SAVE, CLEAR, LOAD, LIST_WHOLE, FILL, OPERATIONS };
 static const char *const names[OPERATIONS] = {"mark",     "ask",  "count-16", "count-256", "count-spot", "count-all",
-                                              "list-256", "save", "clear",    "load",      "list-all"};
+                                              "list-256", "save", "clear",    "load",      "list-all",   "fill"};
 static const int REPEATS = 3;
 
 struct Measured { double nanoseconds; uint64_t found; };
@@ -47,6 +48,7 @@ template <class Set> uint64_t perform(Set &set, const Workload &work, int operat
     case CLEAR: for (Pixel pixel : work.cleared) found += set.clear(pixel); break;
     case SAVE: for (size_t i = 0; i < work.whole.size(); i++) output.length = set.save(output.bytes); break;
     case LOAD: for (size_t i = 0; i < work.whole.size(); i++) set.load(output.bytes, output.length); break;
+    case FILL: for (size_t i = 0; i < work.whole.size(); i++) set.fill(work.ascending); break;
     case LIST: case LIST_WHOLE: return listed(set, windows_of(work, operation), output.codes);
     default: for (Window window : windows_of(work, operation)) found += set.count(window);
     }
@@ -68,6 +70,9 @@ template <class Make> std::vector<Measured> measure(const Workload &work, Make m
             best[operation].found = perform(set, work, operation, output);
             std::chrono::duration<double, std::nano> time = Clock::now() - start;
             best[operation].nanoseconds = std::min(best[operation].nanoseconds, time.count() / calls_of(work, operation));
+            // What is left, outside the time: so that a fill that does nothing is seen.
+            if (operation == FILL)
+                best[operation].found = set.count(work.whole[0]);
         }
     }
     return best;
@@ -118,9 +123,15 @@ static int perform_only(std::map<std::string, std::string> &options)
     Workload work(options["--panel"] == "crowded", pixels, 1);
     Output output = room_for(work);
     Register set(work.order, std::stoul(options["--k"]), pixels);
+    if (options["--only"] == "fill-c++") {
+        set.fill_unverified(work.ascending);
+        set.must_be_sound();
+        std::printf("1 calls %u found\n", set.count(work.whole[0]));
+        return 0;
+    }
     int only = int(std::find(names, names + OPERATIONS, options["--only"]) - names);
     must(only < OPERATIONS, "no such call", options["--only"].c_str());
-    if (only != MARK)
+    if (only != MARK && only != FILL)
         perform(set, work, MARK, output);
     if (only == LOAD)
         perform(set, work, SAVE, output);

@@ -1,5 +1,6 @@
 // Six sets of pixels with the same members, so that one loop measures them all. Needs Debian's libboost-dev and libroaring-dev.
 #pragma once
+#include "build.hpp"
 #include "pkreg.h"
 #include "workload.hpp"
 
@@ -46,6 +47,13 @@ public:
         return saved.first;
     }
     void load(const Bytes &image, size_t length) { must(!pk_load(store.data(), store.size(), image.data(), length), "refused", "load"); }
+    void fill(const Codes &codes) { must(!pk_fill(store.data(), store.size(), codes.data(), codes.size()), "refused", "fill"); }
+    // The same by the C++ build; what it makes must be sound.
+    void fill_unverified(const Codes &codes)
+    {
+        must(!unverified::fill(store.data(), store.size(), codes.data(), codes.size()), "refused", "the C++ fill");
+    }
+    void must_be_sound() const { must(pk_check(store.data(), store.size()).first == 1, "made no sound store", "the C++ fill"); }
 };
 
 // Counting and listing for a set that has search(window, visit), which hands the code of each pixel found to `visit`.
@@ -99,6 +107,12 @@ public:
     }
     size_t save(Bytes &output) const { std::memcpy(output.data(), rows.data(), rows.size() * 8); return rows.size() * 8; }
     void load(const Bytes &image, size_t length) { std::memcpy(rows.data(), image.data(), length); }
+    void fill(const Codes &codes)
+    {
+        std::fill(rows.begin(), rows.end(), 0);
+        for (uint32_t code : codes)
+            mark(pixel_of(code));
+    }
 };
 
 // The least code above `code`, which is not in the window but below `high`, of a pixel in the window whose corners have the codes `low` and
@@ -166,6 +180,7 @@ public:
         const uint32_t *first = reinterpret_cast<const uint32_t *>(image.data());
         codes = Container(first, first + length / 4);
     }
+    void fill(const Codes &given) { codes = Container(given.begin(), given.end()); }
 };
 
 // An image is CRoaring's portable one.
@@ -183,6 +198,7 @@ public:
     bool ask(Pixel p) const { return codes.contains(code_of(p)); }
     size_t save(Bytes &output) const { return codes.write(reinterpret_cast<char *>(output.data())); }
     void load(const Bytes &image, size_t length) { codes = Roaring::readSafe(reinterpret_cast<const char *>(image.data()), length); }
+    void fill(const Codes &given) { codes = Roaring(given.size(), given.data()); }
 };
 
 // Boost's R-tree of points. An image is the codes in the tree's order; load packs the whole tree at once.
@@ -193,6 +209,12 @@ class PointTree : public Searched<PointTree> {
 
     static Point point(Pixel p) { return Point(int32_t(p.x), int32_t(p.y)); }
     static uint32_t code(const Point &p) { return code_of({uint32_t(p.get<0>()), uint32_t(p.get<1>())}); }
+    void pack(const uint32_t *first, const uint32_t *end)
+    {
+        std::vector<Point> points(end - first);
+        std::transform(first, end, points.begin(), [](uint32_t code) { return point(pixel_of(code)); });
+        tree = Tree(points);
+    }
 
 public:
     bool ask(Pixel p) const { return tree.count(point(p)) == 1; }
@@ -211,8 +233,7 @@ public:
     void load(const Bytes &image, size_t length)
     {
         const uint32_t *first = reinterpret_cast<const uint32_t *>(image.data());
-        std::vector<Point> points(length / 4);
-        std::transform(first, first + length / 4, points.begin(), [](uint32_t code) { return point(pixel_of(code)); });
-        tree = Tree(points);
+        pack(first, first + length / 4);
     }
+    void fill(const Codes &codes) { pack(codes.data(), codes.data() + codes.size()); }
 };

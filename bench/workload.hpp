@@ -41,6 +41,7 @@ struct Workload {
     enum { SPOTS = 32, REACH = 128 };
     unsigned order;
     std::vector<Pixel> spots, pixels, asked, cleared;
+    std::vector<uint32_t> ascending; // the codes of the pixels
     std::vector<Window> small, medium, over_spots, whole;
 
     Workload(bool crowded, size_t number, uint32_t seed) : order(crowded ? 11 : 16), draws(seed)
@@ -54,6 +55,9 @@ struct Workload {
             asked[i] = anywhere();
         std::shuffle(asked.begin(), asked.end(), draws);
         draw_windows();
+        for (Pixel pixel : pixels)
+            ascending.push_back(code_of(pixel));
+        std::sort(ascending.begin(), ascending.end());
     }
 
 private:

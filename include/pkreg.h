@@ -14,7 +14,7 @@
  *
  * What the caller owes to every call:
  *   - a pointer to as many words or bytes as the number beside it says, aligned for its type; null is allowed beside a length of 0;
- *   - a store and an image or an output that do not overlap;
+ *   - a store and an image, codes or an output that do not overlap;
  *   - one thread at a time on a store. The library has no state of its own, so different stores need no lock;
  *   - 16 KiB of stack. This is tried, not proved: tests/stack_test.c runs every call on 16 KiB, and they use about 4 KiB.
  * Given that, no call can fail in another way than by its refusal: no other argument and no content of the store is asked for
@@ -25,9 +25,9 @@
 
 /* The version; the Makefile takes it from here. A new MAJOR gives the shared library a new name, so no program meets one that it was not
    linked for. */
-#define PK_VERSION "1.1.0"
+#define PK_VERSION "1.2.0"
 #define PK_VERSION_MAJOR 1
-#define PK_VERSION_MINOR 1
+#define PK_VERSION_MINOR 2
 #define PK_VERSION_PATCH 0
 
 #include <stddef.h>
@@ -51,11 +51,12 @@ enum {
     /* The words are no register, or fewer are lent than pk_words(k, most). Call pk_make first, and lend the same words to every call. After
        a 13 of pk_mark or pk_clear: pk_make, then pk_load of the last image. */
     PK_NO_REGISTER = 3,
-    /* A coordinate is not on the panel. Give x and y below 2^m. */
+    /* A coordinate is not on the panel: give x and y below 2^m. pk_fill: a code is not; give codes below 4^m. */
     PK_OFF_PANEL = 4,
     /* pk_mark: the pixel is marked already. There is nothing to do. */
     PK_ALREADY_MARKED = 5,
-    /* pk_mark: the register holds as many pixels as it may. Clear some, or load its image into a register made with a larger most. */
+    /* pk_mark: the register holds as many pixels as it may. Clear some, or load its image into a register made with a larger most.
+       pk_fill: more codes are given than that. */
     PK_FULL = 6,
     /* pk_clear: the pixel is not marked. There is nothing to do. */
     PK_NOT_MARKED = 7,
@@ -70,9 +71,11 @@ enum {
     /* pk_load: no set of pixels has this image, so its bytes were changed. Ask its sender for it again. */
     PK_IMAGE_DAMAGED = 12,
     /* The store is damaged: its words were changed by something else than these calls. Find who wrote there, then load the last image:
-       pk_load relies on words 0 to 3 only. pk_mark and pk_clear have set word 0 to zero, so that every later call gives 3 until pk_make;
+       pk_load and pk_fill rely on words 0 to 3 only. pk_mark and pk_clear have set word 0 to zero, so that every later call gives 3 until pk_make;
        the other calls left the store, and the content of their output is free. A damaged store is not always met: pk_check tells. */
-    PK_STORE_DAMAGED = 13
+    PK_STORE_DAMAGED = 13,
+    /* pk_fill: the codes do not strictly ascend. Sort them, and give each once. */
+    PK_NOT_ASCENDING = 14
 };
 
 /* The refusal, and two values whose meaning stands beside each call. */
@@ -96,6 +99,11 @@ uint32_t pk_clear(uint32_t *store, size_t words, uint32_t x, uint32_t y);
 /* The register holds exactly the image's pixels afterwards. The image is judged whole before a word is written, and only words 0 to 3
    of the store are relied on, so this also mends a damaged store with these words right. Refusals 3, 10, 11, 12. */
 uint32_t pk_load(uint32_t *store, size_t words, const uint8_t *image, size_t bytes);
+
+/* The register holds exactly the pixels of these codes afterwards, whatever it held before; no codes empty it. Its image is the one that
+   marking them one by one on an empty register gives, but this is many times quicker. All codes are judged before a word is written, and
+   only words 0 to 3 of the store are relied on, so this also mends a damaged store with these words right. Refusals 3, 4, 6, 14. */
+uint32_t pk_fill(uint32_t *store, size_t words, const uint32_t *codes, size_t count);
 
 /* first: 1 for a marked pixel, else 0. second: the blocks opened, which are those of the tree that contain the pixel. Refusals 3, 4, 13. */
 pk_answer pk_ask(const uint32_t *store, size_t words, uint32_t x, uint32_t y);

@@ -16,15 +16,15 @@ import os
 from typing import NamedTuple
 
 # that of include/pkreg.h; the library is opened by the name that goes with its first number
-__version__ = "1.1.0"
+__version__ = "1.2.0"
 
 MEANINGS = {
     1: "m, k or most is beyond its limits: m is 1 to 16, k 2 to 16, most 1 to 65535",
     2: "the store is too short for k and most",
     3: "these words are no register",
-    4: "a coordinate is not on the panel",
+    4: "a coordinate, or a code of fill, is not on the panel",
     5: "the pixel is marked already",
-    6: "the register is full: it holds the most pixels that it may",
+    6: "the register is full: it holds the most pixels that it may, or more codes are given to fill",
     7: "the pixel is not marked",
     8: "the window is reversed: x0 > x1 or y0 > y1",
     9: "the output is too short",
@@ -32,6 +32,7 @@ MEANINGS = {
     11: "the image has another m or k than the register, or more pixels than the register may hold",
     12: "no set of pixels has this image: its bytes were changed",
     13: "the store is damaged: something else wrote to its words",
+    14: "the codes do not strictly ascend: sort them, and give each once",
 }
 LARGEST_MOST = 65535
 HEAD_BYTES = 10
@@ -79,6 +80,7 @@ _SIGNATURES = {
     "pk_mark": (_NUMBER, _WORDS + [_NUMBER] * 2),
     "pk_clear": (_NUMBER, _WORDS + [_NUMBER] * 2),
     "pk_load": (_NUMBER, _WORDS + _BYTES),
+    "pk_fill": (_NUMBER, _WORDS + _WORDS),
     "pk_ask": (_Answer, _WORDS + [_NUMBER] * 2),
     "pk_count": (_Answer, _WORDS + [_NUMBER] * 4),
     "pk_list": (_Answer, _WORDS + [_NUMBER] * 4 + _WORDS),
@@ -119,6 +121,12 @@ def _number(value):
     if not 0 <= value < 2**32:
         raise ValueError(f"{value} is not a number of 32 bits")
     return value
+
+
+def _words_of(numbers):
+    """Numbers of 32 bits, to be lent; an array of another library is lent as a copy of its items."""
+    numbers = [_number(number) for number in numbers]
+    return (ctypes.c_uint32 * len(numbers))(*numbers)
 
 
 def words(k, most):
@@ -168,7 +176,7 @@ def entries_of(image):
 
 
 class Register:
-    """A register in words of its own. Use Register.make or Register.from_image."""
+    """A register in words of its own. Use Register.make, Register.from_image or Register.from_pixels."""
 
     def __init__(self, number_of_words):
         self._words = (ctypes.c_uint32 * number_of_words)()
@@ -187,6 +195,15 @@ class Register:
         sizes = sizes_of(image)
         register = cls.make(sizes.order, sizes.k, min(max(sizes.pixels, 1), LARGEST_MOST))
         register.load(image)
+        return register
+
+    @classmethod
+    def from_pixels(cls, m, k, pixels, most=None):
+        """A register of order m, with this k, that holds these pixels, (x, y) each, in any order and doubles taken once; if `most` is not
+        given, there is no room for more."""
+        pixels = {(operator.index(x), operator.index(y)) for x, y in pixels}
+        register = cls.make(m, k, min(max(len(pixels), 1), LARGEST_MOST) if most is None else most)
+        register.fill(sorted(register._code(x, y) for x, y in pixels))
         return register
 
     @property
@@ -214,6 +231,12 @@ class Register:
         """The register holds exactly the image's pixels afterwards."""
         lent = (ctypes.c_uint8 * len(image)).from_buffer_copy(image)
         self._done(_calls().pk_load(*self._lent, lent, len(image)))
+
+    def fill(self, codes):
+        """The register holds exactly the pixels of these codes afterwards, which must strictly ascend (Refusal 14) and be no more than it may
+        hold (6); code_of gives a pixel's code."""
+        lent = _words_of(codes)
+        self._done(_calls().pk_fill(*self._lent, lent, len(lent)))
 
     def ask(self, x, y):
         """Whether the pixel is marked, and the blocks opened."""
@@ -243,6 +266,12 @@ class Register:
     def check(self):
         """Whether the store is sound, and not damaged."""
         return self._answer(_calls().pk_check(*self._lent)).first == 1
+
+    def _code(self, x, y):
+        """The code of a pixel of this panel; code_of would cut a larger coordinate to 16 bits."""
+        if not (0 <= x < self.side and 0 <= y < self.side):
+            raise Refusal(4)
+        return code_of(x, y)
 
     def _save_into(self, length):
         output = (ctypes.c_uint8 * length)()

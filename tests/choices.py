@@ -1,4 +1,4 @@
-"""Random sizes, pixels, windows and images, with a liking for what is near a limit."""
+"""Random sizes, pixels, windows, images and codes, with a liking for what is near a limit."""
 
 from model import corner, image_of, interleave
 
@@ -45,10 +45,10 @@ def window(random, model):
     return min(xa, xb), min(ya, yb), max(xa, xb), max(ya, yb)
 
 
-def codes(random, model):
+def codes(random, model, limit=60):
     """A set of pixels, in clusters, that may be one too many for the register."""
     panel = 4**model.order
-    number = min(random.randrange(model.most + 2), panel, 60)
+    number = min(random.randrange(model.most + 2), panel, limit)
     chosen, base = set(), random.randrange(panel)
     while len(chosen) < number:
         if random.random() < 0.2:
@@ -108,6 +108,43 @@ def image(random, model):
     if kind < 0.95:
         return damaged(random, whole)
     return random.randbytes(random.randrange(40))
+
+
+def given(random, model):
+    """Codes for fill: a set in rising order, none, too many, or with one thing wrong; two wrong things tell which is judged first."""
+    chosen = sorted(model.codes if random.random() < 0.1 else codes(random, model, limit=300))
+    kind = random.random()
+    if kind < 0.45:
+        return chosen
+    for _ in range(random.choice((1, 1, 2))):
+        chosen = random.choice((_off_panel, _doubled, _swapped, _too_many, lambda random, model, chosen: []))(random, model, chosen)
+    return chosen
+
+
+def _off_panel(random, model, chosen):
+    """A code beyond the panel somewhere, where the panel has fewer codes than a word."""
+    beyond_panel = min(random.choice((4**model.order, 4**model.order + 7, FAR)), FAR)
+    at = random.randint(0, len(chosen))
+    return chosen[:at] + [beyond_panel] + chosen[at:]
+
+
+def _doubled(random, model, chosen):
+    if not chosen:
+        return chosen
+    at = random.randrange(len(chosen))
+    return chosen[: at + 1] + chosen[at:]
+
+
+def _swapped(random, model, chosen):
+    if len(chosen) < 2:
+        return chosen
+    at = random.randrange(len(chosen) - 1)
+    return chosen[:at] + [chosen[at + 1], chosen[at]] + chosen[at + 2 :]
+
+
+def _too_many(random, model, chosen):
+    """One more than the register may hold, if the panel has so many; strictly ascending."""
+    return list(range(min(model.most + 1, 4**model.order)))
 
 
 def marked_and_beside(model):

@@ -1,4 +1,4 @@
-"""Damaged stores: every call ends within what was lent and answers as it must; load and make mend the store.
+"""Damaged stores: every call ends within what was lent and answers as it must; load, fill and make mend the store.
 
 What holds of every call on any store (values in range, zeros, what stays unchanged) is held in subject.py.
 """
@@ -63,6 +63,14 @@ def load_call(random, subject, model):
     return fresh if due == 0 else None
 
 
+def fill_call(random, subject, model):
+    """So does fill."""
+    codes, fresh = choices.given(random, model), Model(*(subject.store[at] for at in (1, 2, 3)))
+    due = fresh.fill(codes) if usable(subject.store) else 3
+    expect(f"fill({codes}) of a damaged store", subject.call("fill", codes=words(codes))[0], due)
+    return fresh if due == 0 else None
+
+
 def check_call(random, subject, model):
     """A store that is told sound is some set's: save gives its image."""
     refusal, sound, _ = subject.call("check")
@@ -78,7 +86,7 @@ def check_call(random, subject, model):
     return fresh
 
 
-OTHER_CALLS = {"make": make_call, "load": load_call, "check": check_call}
+OTHER_CALLS = {"make": make_call, "load": load_call, "fill": fill_call, "check": check_call}
 
 
 def call(random, subject, model, name):
@@ -93,6 +101,7 @@ def all_give_3(random, subject, model):
         expect(f"{name} of no register", subject.call(name, *numbers, output=output)[0], 3)
     expect("check of no register", subject.call("check")[0], 3)
     expect("load into no register", subject.call("load", image=octets(model.image()))[0], 3)
+    expect("fill of no register", subject.call("fill", codes=words(sorted(model.codes)))[0], 3)
 
 
 def unusable(random, subject, model):
@@ -125,13 +134,16 @@ def further_calls(random, subject, model):
 
 
 def mend(random, subject, model):
-    """An image is loaded at last."""
+    """An image is loaded at last, or its codes are filled in."""
     put_sizes_right(subject, model)
     chosen = choices.codes(random, model)
     while len(chosen) > model.most:
         chosen.pop()
-    image = image_of(model.order, model.k, chosen)
-    expect("load into a damaged store", subject.call("load", image=octets(image))[0], model.load(image))
+    if random.random() < 0.5:
+        image = image_of(model.order, model.k, chosen)
+        expect("load into a damaged store", subject.call("load", image=octets(image))[0], model.load(image))
+    else:
+        expect("fill of a damaged store", subject.call("fill", codes=words(sorted(chosen)))[0], model.fill(sorted(chosen)))
     last_look(subject, model)
 
 

@@ -7,7 +7,7 @@ from subject import Subject, expect
 
 LOOKS = ("ask",) * 3 + ("count",) * 2 + ("list",) * 2 + ("save", "check")
 # a history grows, shrinks or is mixed for some steps each, so that trees become large and dissolve again
-PHASES = (("mark",) * 16 + LOOKS, ("mark",) * 3 + ("clear",) * 14 + LOOKS, ("mark",) * 8 + ("clear",) * 6 + ("load",) * 3 + LOOKS)
+PHASES = (("mark",) * 16 + LOOKS, ("mark",) * 3 + ("clear",) * 14 + LOOKS, ("mark",) * 8 + ("clear",) * 6 + ("load",) * 3 + ("fill",) * 3 + LOOKS)
 
 
 def made(random, m, k, most, tally):
@@ -46,6 +46,11 @@ def load_call(random, subject, model):
     expect(f"load({image.hex()})", subject.call("load", image=octets(image))[0], model.load(image))
 
 
+def fill_call(random, subject, model):
+    codes = choices.given(random, model)
+    expect(f"fill({codes})", subject.call("fill", codes=words(codes))[0], model.fill(codes))
+
+
 def step(random, subject, model, name):
     """One call on the library and the model."""
     if name in ("mark", "clear"):
@@ -60,7 +65,7 @@ def step(random, subject, model, name):
     elif name == "check":
         expect("check of a sound store", subject.call("check"), (0, 1, 0))
     else:
-        {"list": list_call, "save": save_call, "load": load_call}[name](random, subject, model)
+        {"list": list_call, "save": save_call, "load": load_call, "fill": fill_call}[name](random, subject, model)
 
 
 def last_look(subject, model):
@@ -94,6 +99,17 @@ def same_image_elsewhere(random, model, image, tally, detours):
     expect("the image of the same pixels", last_look(subject, other), image)
 
 
+def same_image_filled(random, model, image, tally):
+    """So has a register that is filled with the pixels' codes, whatever it held."""
+    most = random.randint(max(len(model.codes), 1), len(model.codes) + 20)
+    subject, other = made(random, model.order, model.k, most, tally), Model(model.order, model.k, most)
+    for _ in range(random.randrange(9)):
+        step(random, subject, other, random.choice(("mark", "mark", "clear", "fill")))
+    codes = sorted(model.codes)
+    expect(f"fill({codes})", (subject.call("fill", codes=words(codes))[0], other.fill(codes)), (0, 0))
+    expect("the image of the same pixels", last_look(subject, other), image)
+
+
 def history(random, tally, steps):
     """A whole history; steps counts for whoever looks at a difference."""
     m, k, most = choices.sizes(random)
@@ -106,4 +122,5 @@ def history(random, tally, steps):
     image = last_look(subject, model)
     same_image_elsewhere(random, model, image, tally, detours=0)
     same_image_elsewhere(random, model, image, tally, detours=random.randint(1, 12))
+    same_image_filled(random, model, image, tally)
     return subject, model

@@ -1,4 +1,4 @@
-"""The largest register: order 16, k = 2 and 65,535 pixels, against the model's image after filling, loading, and clearing half."""
+"""The largest register: order 16, k = 2 and 65,535 pixels, against the model's image after marking, loading, filling, and clearing half."""
 
 import random
 import sys
@@ -47,6 +47,11 @@ def run(rolls):
     image = octets(holds(first, codes))
     expect("load", LIBRARY.pk_load(*second.arguments, *image.arguments), 0)
     holds(second, codes)
+    third, ascending = empty(), words(sorted(codes))
+    expect("fill", LIBRARY.pk_fill(*third.arguments, *ascending.arguments), 0)
+    holds(third, codes)
+    too_many = words(range(MOST + 1))
+    expect("fill with one more", LIBRARY.pk_fill(*third.arguments, *too_many.arguments), 6)
     gone = rolls.sample(sorted(codes), MOST // 2)
     for code in gone:
         expect("clear", LIBRARY.pk_clear(*second.arguments, *corner(code)), 0)
@@ -59,7 +64,7 @@ def main():
     except Difference as difference:
         print(f"largest: DIFFERENCE: {difference}")
         return 1
-    print(f"largest: order {ORDER}, k {K}, {MOST} pixels filled, loaded and half cleared, ok")
+    print(f"largest: order {ORDER}, k {K}, {MOST} pixels marked, loaded, filled and half cleared, ok")
     return 0
 
 

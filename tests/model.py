@@ -130,6 +130,16 @@ class Model:
         refusal, codes = judge_image(self.order, self.k, self.most, image)
         return refusal or self._become(codes)
 
+    def fill(self, codes):
+        """The codes replace the set; they are judged in the order of the refusals' numbers."""
+        if any(code >= 4**self.order for code in codes):
+            return 4
+        if len(codes) > self.most:
+            return 6
+        if any(later <= code for code, later in zip(codes, codes[1:])):
+            return 14
+        return self._become(set(codes))
+
     def ask(self, x, y):
         if not self._on_panel(x, y):
             return 4, 0, 0

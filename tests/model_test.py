@@ -45,6 +45,11 @@ def cases():
     yield [words_needed(k, most) for k, most in ((3, 9), (1, 9), (17, 9), (3, 0), (3, 65536))], [148, 0, 0, 0, 0]
     full = holding(3, 3, range(9))
     yield (full.mark(0, 0), full.mark(7, 7)), (5, 6)
+    filled = holding(3, 3, [5, 9])
+    yield (filled.fill([0, 1, 2, 60]), filled.image()), (0, first.image())
+    refused = ([64, 3, 3], [0, 64] * 5, range(10), [3] * 10, [3, 3], [2, 1])
+    yield [filled.fill(list(codes)) for codes in refused], [4, 4, 6, 6, 14, 14]
+    yield (filled.codes, filled.fill([]), filled.codes), ({0, 1, 2, 60}, 0, set())
 
 
 def main():

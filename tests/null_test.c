@@ -1,4 +1,4 @@
-/* A null pointer beside a length of 0 is allowed in every call: as a store, as an image and as an output. */
+/* A null pointer beside a length of 0 is allowed in every call: as a store, as an image, as codes and as an output. */
 #include "pkreg.h"
 
 #include <stdio.h>
@@ -34,6 +34,7 @@ static void no_store(void)
     expect_refusal("mark", pk_mark(NULL, 0, 0, 0), PK_NO_REGISTER);
     expect_refusal("clear", pk_clear(NULL, 0, 0, 0), PK_NO_REGISTER);
     expect_refusal("load", pk_load(NULL, 0, NULL, 0), PK_NO_REGISTER);
+    expect_refusal("fill", pk_fill(NULL, 0, NULL, 0), PK_NO_REGISTER);
     expect("ask", pk_ask(NULL, 0, 0, 0), PK_NO_REGISTER, 0, 0);
     expect("count", pk_count(NULL, 0, 0, 0, 0, 0), PK_NO_REGISTER, 0, 0);
     expect("list", pk_list(NULL, 0, 0, 0, 0, 0, NULL, 0), PK_NO_REGISTER, 0, 0);
@@ -61,6 +62,8 @@ static void no_image_and_no_output(uint32_t *store)
         fprintf(stderr, "null: the store was changed by calls that were refused or only look\n");
         exit(1);
     }
+    expect_refusal("fill with no codes", pk_fill(store, WORDS, NULL, 0), PK_ACCEPTED);
+    expect("count of the register that it emptied", pk_count(store, WORDS, 0, 0, 7, 7), PK_ACCEPTED, 0, 1);
 }
 
 int main(void)

@@ -61,6 +61,20 @@ def cases():
     yield [raised(Register.make, *sizes) for sizes in ((0, 3, 9), (3, 17, 9), (3, 3, 65536))], [(1, 0, True)] * 3
     yield [raised(register.mark, x, 0) for x in (-1, 2**32, 1.5, "1")], ["ValueError", "ValueError", "TypeError", "TypeError"]
     yield (pkreg.code_of(5, 3), pkreg.pixel_of(2**32 - 1)), (27, (65535, 65535))
+    filled = Register.make(3, 3, 4)
+    filled.fill([0, 1, Whole(2), 60])
+    yield (filled.save() == image, filled.check()), (True, True)
+    wrong = ([64], [0, 1, 2, 3, 4], [3, 3], [2, 1])
+    yield [raised(filled.fill, codes) for codes in wrong], [(4, 0, True), (6, 0, True), (14, 0, True), (14, 0, True)]
+    yield [raised(filled.fill, codes) for codes in ([-1], [2**32], [1.5], 7)], ["ValueError", "ValueError", "TypeError", "TypeError"]
+    yield filled.save(), image
+    filled.fill(())
+    yield filled.count(0, 0, 7, 7), pkreg.Counted(found=0, opened=1)
+    pixels = Register.from_pixels(3, 3, ((x, y) for x, y in [(6, 6), (0, 1), (Whole(1), 0), (0, 0), (0, 1)]))
+    yield (pixels.save() == image, pixels.most), (True, 4)
+    yield (Register.from_pixels(3, 3, []).most, Register.from_pixels(3, 3, [(5, 5)], most=9).most), (1, 9)
+    yield [raised(Register.from_pixels, *given) for given in ((3, 3, [(8, 0)]), (3, 3, [(0, 0), (1, 1)], 1), (17, 3, []))], [(4, 0, True), (6, 0, True), (1, 0, True)]
+    yield raised(Register.from_pixels, 3, 3, [(-1, 0)]), (4, 0, True)
     yield without_library(), "cannot open the library /nowhere/libpkreg.so: run 'make lib', or name it by PKREG_LIBRARY\n"
 
 

@@ -76,6 +76,7 @@ static void all_calls(void)
     pk_list(store, words, 0, 0, LAST, LAST, listed, MOST);
     saved = pk_save(store, words, image, sizeof image);
     pk_load(store, words, image, saved.first);
+    pk_fill(store, words, codes, pixels);
     pk_check(store, words);
     pk_words(k, MOST);
 }

@@ -5,12 +5,13 @@ import collections
 from lent import LIBRARY, words
 from model import slots_for, words_needed
 
-CHANGING = ("make", "mark", "clear", "load")
+CHANGING = ("make", "mark", "clear", "load", "fill")
 REFUSALS = {
     "make": (1, 2),
     "mark": (3, 4, 5, 6, 13),
     "clear": (3, 4, 7, 13),
     "load": (3, 10, 11, 12),
+    "fill": (3, 4, 6, 14),
     "ask": (3, 4, 13),
     "count": (3, 4, 8, 13),
     "list": (3, 4, 8, 9, 13),
@@ -51,13 +52,13 @@ class Subject:
         known = len(self.store) >= 4 and words_needed(self.store[2], self.store[3])
         return min(known or len(self.store), len(self.store))
 
-    def call(self, name, *numbers, image=None, output=None, end=None):
+    def call(self, name, *numbers, image=None, codes=None, output=None, end=None):
         """The answer as (refusal, first, second)."""
         end = self.end() if end is None else end
         sizes = [self.store[at] for at in (1, 2, 3)] if len(self.store) >= 4 else None
         before, untouched = self.store.content(), None if output is None else output.content()
         lent = [*self.store.arguments, *numbers]
-        for part in (image, output):
+        for part in (image, codes, output):
             lent += part.arguments if part is not None else ()
         answer = getattr(LIBRARY, "pk_" + name)(*lent)
         told = (answer, 0, 0) if name in CHANGING else (answer.refusal, answer.first, answer.second)

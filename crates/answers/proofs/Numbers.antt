@@ -2,7 +2,7 @@
 use native.Mathlib.Omega.{arith}
 use mathlib.Core.Path.{_≡_}
 use Rattle.answers.specs.declared.Refusal.{Refusal}
-use Rattle.answers.specs.declared.Refusal.the-variants.{BeyondLimits, StoreTooShort, NoRegister, OffPanel, AlreadyMarked, Full, NotMarked, WindowReversed, OutputTooShort, NotAnImage, ImageUnlike, ImageDamaged, StoreDamaged}
+use Rattle.answers.specs.declared.Refusal.the-variants.{BeyondLimits, StoreTooShort, NoRegister, OffPanel, AlreadyMarked, Full, NotMarked, WindowReversed, OutputTooShort, NotAnImage, ImageUnlike, ImageDamaged, StoreDamaged, NotAscending}
 use Rattle.answers.specs.Answer.{numberOf}
 
 pub is-refused : (refusal : Refusal) → numberOf refusal ≡ 0 → ⊥
@@ -19,3 +19,4 @@ is-refused NotAnImage e = omega arith
 is-refused ImageUnlike e = omega arith
 is-refused ImageDamaged e = omega arith
 is-refused StoreDamaged e = omega arith
+is-refused NotAscending e = omega arith

@@ -1,7 +1,7 @@
 -- 01's number and values for each answer: the refusal, 0 for an accepted call, and two values, zero beside every refusal but 9.
 use Prim.Native.Nat.{ℕ}
 use Rattle.answers.specs.declared.Refusal.{Refusal}
-use Rattle.answers.specs.declared.Refusal.the-variants.{BeyondLimits, StoreTooShort, NoRegister, OffPanel, AlreadyMarked, Full, NotMarked, WindowReversed, OutputTooShort, NotAnImage, ImageUnlike, ImageDamaged, StoreDamaged}
+use Rattle.answers.specs.declared.Refusal.the-variants.{BeyondLimits, StoreTooShort, NoRegister, OffPanel, AlreadyMarked, Full, NotMarked, WindowReversed, OutputTooShort, NotAnImage, ImageUnlike, ImageDamaged, StoreDamaged, NotAscending}
 use Rattle.promises.specs.Answer.{Answer, accepted, refused, short, yesNo}
 use Rattle.answers.specs.declared.Outcome.{Outcome}
 use Rattle.answers.specs.declared.Outcome.the-variants as outcome
@@ -16,7 +16,7 @@ use Rattle.answers.specs.declared.Saving.the-variants as saving
 use Rattle.answers.specs.declared.Checking.{Checking}
 use Rattle.answers.specs.declared.Checking.the-variants as checking
 
--- 01: the refusals by number
+-- 01, and 02, P2: the refusals by number
 abbrev pub numberOf : Refusal → ℕ
 numberOf BeyondLimits = 1
 numberOf StoreTooShort = 2
@@ -31,8 +31,9 @@ numberOf NotAnImage = 10
 numberOf ImageUnlike = 11
 numberOf ImageDamaged = 12
 numberOf StoreDamaged = 13
+numberOf NotAscending = 14
 
--- make, mark, clear and load return only that they were done
+-- make, mark, clear, load and fill return only that they were done
 abbrev pub answer : Outcome → Answer
 answer outcome.Done = accepted 0 0
 answer (outcome.Refused refusal) = refused (numberOf refusal)

@@ -4,7 +4,7 @@ ghost use Rattle.answers.specs.Answer.{answer, numberOf};
 
 pub mod judging;
 
-// 01 "Who is refused, and how": the refusals, in the order of their numbers, 1 to 13.
+// 01 "Who is refused, and how", and 02, P2: the refusals, in the order of their numbers, 1 to 14.
 pub enum Refusal {
     BeyondLimits,
     StoreTooShort,
@@ -19,6 +19,7 @@ pub enum Refusal {
     ImageUnlike,
     ImageDamaged,
     StoreDamaged,
+    NotAscending,
 }
 
 // 01's number of a refusal.
@@ -39,10 +40,11 @@ pub fn number_of(refusal: Refusal) -> u32
         Refusal::ImageUnlike => 11,
         Refusal::ImageDamaged => 12,
         Refusal::StoreDamaged => 13,
+        Refusal::NotAscending => 14,
     }
 }
 
-// What make, mark, clear and load answer: done, or why not.
+// What make, mark, clear, load and fill answer: done, or why not.
 pub enum Outcome {
     Done,
     Refused(Refusal),

@@ -16,9 +16,9 @@ use Rattle.measures.specs.Sizes.{panelOf, sizesOf}
 use Rattle.promises.specs.Effect.{HasPixelOn, CornersOn}
 use Rattle.image.specs.Held.{HasImage}
 use Rattle.promises.specs.Answer.{Answer, accepted, yesNo}
-use Rattle.promises.specs.Calls.{asked, MarkMeets, ClearMeets, AskMeets, windowGiven, CountMeets, ListMeets, SaveMeets, LoadMeets, CheckMeets}
+use Rattle.promises.specs.Calls.{asked, MarkMeets, ClearMeets, AskMeets, windowGiven, CountMeets, ListMeets, SaveMeets, LoadMeets, FillMeets, CheckMeets}
 use Rattle.promises.proofs.Answers.{refusal-of}
-use Rattle.promises.proofs.Exactly.{image-loaded, check-answers}
+use Rattle.promises.proofs.Exactly.{image-loaded, set-filled, check-answers}
 use Rattle.promises.proofs.OnSound.{mark-already, clear-unmarked, clear-removes, ask-answers, count-answers, list-writes, list-short, save-writes, save-short}
 use Rattle.clients.specs.Known.{firstSet, HoldsOf9, HoldsFirst, firstImage, PanelAsked, PanelListed, PanelSaved, ClearedListed, SpoiltOf9}
 
@@ -155,9 +155,18 @@ module _ {words : List ℕ} (h : HoldsFirst words) {after : List ℕ} {a : Answe
         );
       }
 
+first-fits : {words : List ℕ} → SpoiltOf9 words → HasImage (panelOf (sizesOf words)) (sizesOf words .most) firstImage firstSet
+first-fits s = subst (λ (z : Sizes). HasImage (panelOf z) (z .most) firstImage firstSet) (sym (s .sizes-are)) has-image
+
 -- a damaged store of these sizes holds the image's set once it is loaded
 pub mended-panel : {words after bytes : List ℕ} {a : Answer} → SpoiltOf9 words → bytes ≡ firstImage → LoadMeets words after bytes a → HoldsFirst after
 mended-panel {words} s e m =
-    let has = subst (λ (z : Sizes). HasImage (panelOf z) (z .most) firstImage firstSet) (sym (s .sizes-are)) has-image in
+    let has = first-fits s in
     let b = image-loaded m (s .usable) (subst (λ (l : List ℕ). HasImage (panelOf (sizesOf words)) (sizesOf words .most) l firstSet) (sym e) has) in
+    record { holds = b .holds; sizes-are = b .sizes-are ∙ s .sizes-are }
+
+-- and the codes once it is filled
+pub refilled-panel : {words after : List ℕ} {a : Answer} → SpoiltOf9 words → FillMeets words after firstSet a → HoldsFirst after
+refilled-panel s m =
+    let b = set-filled m (s .usable) (first-fits s .on-panel) (first-fits s .room) in
     record { holds = b .holds; sizes-are = b .sizes-are ∙ s .sizes-are }

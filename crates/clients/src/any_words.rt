@@ -7,7 +7,7 @@ ghost use Rattle.measures.specs.Sizes.{sizesOf, UsableStore};
 ghost use Rattle.image.specs.Held.{mostBytes};
 ghost use Rattle.promises.specs.Effect.{effect};
 ghost use Rattle.promises.specs.Calls.{asked, slotsIn};
-ghost use Rattle.promises.proofs.Exactly.{MakeRefusals, PixelRefusals, WindowRefusals, LoadRefusals, CheckAnswers};
+ghost use Rattle.promises.proofs.Exactly.{MakeRefusals, PixelRefusals, WindowRefusals, LoadRefusals, FillRefusals, CheckAnswers};
 ghost use Rattle.promises.proofs.AnyWords.{Leaves, Bounded, OutputLeft};
 ghost use Rattle.answers.specs.Answer.{answer, askAnswer, countAnswer, listAnswer, saveAnswer, checkAnswer};
 ghost use Rattle.clients.specs.Known.{OffEveryPanel, BytesNeeded, FrontSaved, SavedWhole};
@@ -40,6 +40,12 @@ pub fn load(store: &mut [u32], image: &[u8]) -> Outcome
     ensures { λ r. ⌜ LoadRefusals (now (store .entry)) (now (image .entry)) (answer r) × Leaves (sizesOf (now (store .entry))) (effect (answer r) (now (store .entry)) (now (store .exit))) ⌝ }
 {
     register::load(store, image)
+}
+
+pub fn fill(store: &mut [u32], codes: &[u32]) -> Outcome
+    ensures { λ r. ⌜ FillRefusals (now (store .entry)) (now (codes .entry)) (answer r) × Leaves (sizesOf (now (store .entry))) (effect (answer r) (now (store .entry)) (now (store .exit))) ⌝ }
+{
+    register::fill(store, codes)
 }
 
 pub fn ask(store: &[u32], x: u32, y: u32) -> Asking

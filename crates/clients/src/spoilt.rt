@@ -1,4 +1,4 @@
-// A damaged store: what each call says of it, and that load mends it.
+// A damaged store: what each call says of it, and that load and fill mend it.
 ghost use Prim.Native.Nat.{_≤_};
 ghost use mathlib.Core.Path.{_≡_};
 ghost use lib.ListN.{length};
@@ -207,4 +207,30 @@ pub fn mended_is_sound() -> Checking
 {
     let mut store = [0u32; 148];
     check_mended(&mut store)
+}
+
+// The codes of the first panel are filled in over the damage.
+fn refill(store: &mut [u32])
+    requires { ⌜ 148 ≤ length (now store) ⌝ }
+    ensures { λ _. ⌜ HoldsFirst (now (store .exit)) ⌝ }
+{
+    make_and_spoil(store);
+    let codes = [0u32, 1, 2, 60];
+    register::fill(store, &codes);
+}
+
+fn list_refilled(store: &mut [u32], output: &mut [u32]) -> Listing
+    requires { ⌜ 148 ≤ length (now store) ⌝ }
+    ensures { λ r. ⌜ PanelListed (now (output .entry)) (now (output .exit)) (listAnswer r) ⌝ }
+{
+    refill(store);
+    register::list(store, 0, 0, 7, 7, output)
+}
+
+// A damaged store is mended by fill too: it lists the first panel.
+pub fn refilled(output: &mut [u32]) -> Listing
+    ensures { λ r. ⌜ PanelListed (now (output .entry)) (now (output .exit)) (listAnswer r) ⌝ }
+{
+    let mut store = [0u32; 148];
+    list_refilled(&mut store, output)
 }

@@ -1,7 +1,8 @@
 -- What a public call's record says is a step; and one more call at the end of a run.
 use Prim.Native.Nat.{ℕ}
-use mathlib.Core.Path.{refl}
+use mathlib.Core.Path.{_≡_, refl, ap₂, subst, _∙_}
 use mathlib.Core.List.{List, [], _∷_, _++_}
+use lib.ListN.{take, drop}
 use denote.Ref.{RefT}
 use Rattle.answers.specs.declared.Outcome.{Outcome}
 use Rattle.answers.specs.declared.Asking.{Asking}
@@ -10,8 +11,8 @@ use Rattle.answers.specs.declared.Listing.{Listing}
 use Rattle.answers.specs.declared.Saving.{Saving}
 use Rattle.answers.specs.declared.Checking.{Checking}
 use Rattle.answers.specs.Answer.{answer, askAnswer, countAnswer, listAnswer, saveAnswer, checkAnswer}
-use Rattle.promises.specs.Calls.{MarkMeets, ClearMeets, AskMeets, CountMeets, ListMeets, SaveMeets, LoadMeets, CheckMeets}
-use Rattle.promises.specs.Survivors.{Call, mark, clear, ask, count, list, save, load, check}
+use Rattle.promises.specs.Calls.{MarkMeets, ClearMeets, AskMeets, CountMeets, ListMeets, SaveMeets, LoadMeets, FillMeets, CheckMeets}
+use Rattle.promises.specs.Survivors.{Call, mark, clear, ask, count, list, save, load, fill, check}
 use Rattle.history.specs.Run as steps
 use Rattle.history.specs.Run.{Step, SaveRun, Run, done, then}
 
@@ -43,8 +44,17 @@ save-step words output written r m =
 pub load-step : (before after bytes : List ℕ) (r : Outcome) → LoadMeets before after bytes (answer r) → Step (load bytes) before after
 load-step before after bytes r m = steps.by-load ([], ([], tt)) (lent before) (lent bytes) r after m
 
+pub fill-step : (before after codes : List ℕ) (r : Outcome) → FillMeets before after codes (answer r) → Step (fill codes) before after
+fill-step before after codes r m = steps.by-fill ([], ([], tt)) (lent before) (lent codes) r after m
+
 pub check-step : (words : List ℕ) (r : Checking) → CheckMeets words (checkAnswer r) → Step check words words
 check-step words r m = steps.by-check ([], tt) (lent words) r m
+
+-- the bytes or codes of a call, by what the part of the row beside the script was asked for
+pub of-part : (call : List ℕ → Call) (row before after part : List ℕ) (from number a b : ℕ) → part ≡ take number (drop from row) → from ≡ a → number ≡ b
+    → Step (call part) before after → Step (call (take b (drop a row))) before after
+of-part call row before after part from number a b is e f step =
+    subst (λ (l : List ℕ). Step (call l) before after) (is ∙ ap₂ (λ (n at : ℕ). take n (drop at row)) f e) step
 
 pub run-then : {calls : List Call} {call : Call} {before between after : List ℕ} → Run calls before between → Step call between after
     → Run (calls ++ (call ∷ [])) before after

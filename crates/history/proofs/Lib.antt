@@ -5,3 +5,4 @@ pub mod TwoLists
 pub mod Routines
 pub mod CallSteps
 pub mod Whole
+pub mod FilledAsMarked

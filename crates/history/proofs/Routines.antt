@@ -42,6 +42,10 @@ use Rattle.register.proofs.load.Reads as load-reads
 use Rattle.register.proofs.load.Kinds as load-kinds
 use Rattle.register.proofs.load.Symbol as load-symbol
 use Rattle.register.proofs.load.Met as load-theorem
+use Rattle.register.proofs.fill.Reads as fill-reads
+use Rattle.register.proofs.fill.Kinds as fill-kinds
+use Rattle.register.proofs.fill.Symbol as fill-symbol
+use Rattle.register.proofs.fill.Met as fill-theorem
 use Rattle.register.proofs.check.Reads as check-reads
 use Rattle.register.proofs.check.Kinds as check-kinds
 use Rattle.register.proofs.check.Symbol as check-symbol
@@ -75,6 +79,9 @@ save-gives w γ name e = save-reads.known w γ name save-symbol.routine e (save-
 
 pub load-gives : Gives 2 load-kinds.ps load-kinds.r load-reads.Asked load-reads.Learnt load-symbol.routine
 load-gives w γ name e = load-reads.known w γ name load-symbol.routine e (load-theorem.met (w .𝓤) (w .H) (w .𝓜) (w .𝓖) (w .𝓡))
+
+pub fill-gives : Gives 2 fill-kinds.ps fill-kinds.r fill-reads.Asked fill-reads.Learnt fill-symbol.routine
+fill-gives w γ name e = fill-reads.known w γ name fill-symbol.routine e (fill-theorem.met (w .𝓤) (w .H) (w .𝓜) (w .𝓖) (w .𝓡))
 
 pub check-gives : Gives 1 check-kinds.ps check-kinds.r check-reads.Asked check-reads.Learnt check-symbol.routine
 check-gives w γ name e = check-reads.known w γ name check-symbol.routine e (check-theorem.met (w .𝓤) (w .H) (w .𝓜) (w .𝓖) (w .𝓡))

@@ -6,9 +6,9 @@ use denote.Ref.{now}
 use Rattle.measures.specs.declared.sizes.Sizes.{Sizes}
 use Rattle.measures.specs.Sizes.{sizesOf}
 use Rattle.answers.specs.Answer.{answer}
-use Rattle.promises.specs.Survivors.{Call, mark, clear, load, next}
-use Rattle.promises.proofs.Keeping.{InStep, mark-next, clear-next, load-next}
-use Rattle.history.specs.Run.{Step, by-mark, by-clear, by-ask, by-count, by-list, by-save, by-load, by-check}
+use Rattle.promises.specs.Survivors.{Call, mark, clear, load, fill, next}
+use Rattle.promises.proofs.Keeping.{InStep, mark-next, clear-next, load-next, fill-next}
+use Rattle.history.specs.Run.{Step, by-mark, by-clear, by-ask, by-count, by-list, by-save, by-load, by-fill, by-check}
 
 -- of the sizes that the store says
 abbrev at-own-sizes : {sizes : Sizes} {set words : List ℕ} → InStep sizes set words → InStep (sizesOf words) set words
@@ -27,4 +27,5 @@ step-keeps sizes set (by-count κs s x0 y0 x1 y1 r m) h = h
 step-keeps sizes set (by-list κs s o x0 y0 x1 y1 r written m) h = h
 step-keeps sizes set (by-save words output r written m) h = h
 step-keeps sizes set (by-load κs s i r after m) h = to-sizes (load (now i)) h (load-next (now s) after (now i) (answer r) set (at-own-sizes h) m)
+step-keeps sizes set (by-fill κs s c r after m) h = to-sizes (fill (now c)) h (fill-next (now s) after (now c) (answer r) set (at-own-sizes h) m)
 step-keeps sizes set (by-check κs s r m) h = h

@@ -16,14 +16,14 @@ use Rattle.history.specs.Script.{callsTo, callsOf}
 use Rattle.history.specs.Whole.{RunMeets, sampleCalls, SampleRan}
 use Rattle.history.proofs.CallSteps.{lent}
 
-module _ (before made : List ℕ) (m k n : ℕ) (outcome : Outcome) (meets : MakeMeets before made m k n (answer outcome)) (script images : List ℕ) (r : ℕ) (is : r ≡ answer outcome .refusal) where
-  pub ran : (after : List ℕ) → r ≡ 0 → Run (callsOf images script) made after → RunMeets before after m k n script images r
+module _ (before made : List ℕ) (m k n : ℕ) (outcome : Outcome) (meets : MakeMeets before made m k n (answer outcome)) (script images codes : List ℕ) (r : ℕ) (is : r ≡ answer outcome .refusal) where
+  pub ran : (after : List ℕ) → r ≡ 0 → Run (callsOf images codes script) made after → RunMeets before after m k n script images codes r
   ran after zero run = record {
     made = (λ e. make-refusals meets .made .0 (sym is ∙ e), λ h. is ∙ make-refusals meets .made .1 h);
     history = λ e. record { start = made; made = by-make ([], tt) (lent before) outcome made meets (sym is ∙ e); run = run };
   }
 
-  pub not-made : (r ≡ 0 → ⊥) → RunMeets before made m k n script images r
+  pub not-made : (r ≡ 0 → ⊥) → RunMeets before made m k n script images codes r
   not-made other = record { made = (λ e. absurd (other e), λ h. absurd (other (is ∙ make-refusals meets .made .1 h))); history = λ e. absurd (other e) }
 
 sample-valid : ValidSizes (asked 3 3 4)
@@ -36,18 +36,18 @@ sample-valid = record {
 abbrev pub sampleScript : List ℕ
 sampleScript = 0 ∷ 0 ∷ 0 ∷ 0 ∷ 0 ∷ 0 ∷ 0 ∷ 1 ∷ 0 ∷ 0 ∷ 0 ∷ 0 ∷ 0 ∷ 2 ∷ 0 ∷ 0 ∷ 0 ∷ 0 ∷ 0 ∷ 0 ∷ 1 ∷ 0 ∷ 0 ∷ 0 ∷ []
 
-script-is : (images : List ℕ) → callsOf images sampleScript ≡ sampleCalls
+script-is : (images codes : List ℕ) → callsOf images codes sampleScript ≡ sampleCalls
 unfolding callsTo
-script-is images = refl
+script-is images codes = refl
 
 -- by computation
 sample-survivors : survivors (asked 3 3 4) sampleCalls ≡ 0 ∷ 1 ∷ 2 ∷ 4 ∷ []
 unfolding interleave
 sample-survivors = refl
 
-pub sample-ran : (before after images : List ℕ) (r : ℕ) → 64 ≤ length before → RunMeets before after 3 3 4 sampleScript images r → SampleRan
-sample-ran before after images r long m = record {
+pub sample-ran : (before after images codes : List ℕ) (r : ℕ) → 64 ≤ length before → RunMeets before after 3 3 4 sampleScript images codes r → SampleRan
+sample-ran before after images codes r long m = record {
   words = after;
-  history = subst (λ (calls : List Call). History (asked 3 3 4) calls after) (script-is images) (m .history (m .made .1 (sample-valid, long)));
+  history = subst (λ (calls : List Call). History (asked 3 3 4) calls after) (script-is images codes) (m .history (m .made .1 (sample-valid, long)));
   survive = sample-survivors;
 }

@@ -1,4 +1,5 @@
 pub mod Run
 pub mod Claim
+pub mod Filled
 pub mod Script
 pub mod Whole

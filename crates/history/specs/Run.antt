@@ -21,8 +21,9 @@ use Rattle.register.proofs.count.Reads as count-reads
 use Rattle.register.proofs.list.Reads as list-reads
 use Rattle.register.proofs.save.Reads as save-reads
 use Rattle.register.proofs.load.Reads as load-reads
+use Rattle.register.proofs.fill.Reads as fill-reads
 use Rattle.register.proofs.check.Reads as check-reads
-use Rattle.promises.specs.Survivors.{Call, mark, clear, ask, count, list, save, load, check}
+use Rattle.promises.specs.Survivors.{Call, mark, clear, ask, count, list, save, load, fill, check}
 
 -- a save from these words into this output
 pub data SaveRun (words output : List ℕ) (r : Saving) (written : List ℕ) : Type 0 where
@@ -45,6 +46,8 @@ pub data Step : Call → List ℕ → List ℕ → Type 0 where
   by-save : (words output : List ℕ) (r : Saving) (written : List ℕ) → SaveRun words output r written → Step (save output) words words
   by-load : (κs : Lfts 2) (s i : RefT (List ℕ)) (r : Outcome) (after : List ℕ)
       → load-reads.Learnt κs (s, (i, tt)) r (at-last s after, (i, tt)) → Step (load (now i)) (now s) after
+  by-fill : (κs : Lfts 2) (s c : RefT (List ℕ)) (r : Outcome) (after : List ℕ)
+      → fill-reads.Learnt κs (s, (c, tt)) r (at-last s after, (c, tt)) → Step (fill (now c)) (now s) after
   by-check : (κs : Lfts 1) (s : RefT (List ℕ)) (r : Checking) → check-reads.Learnt κs (s, tt) r (s, tt) → Step check (now s) (now s)
 
 -- an accepted make with these numbers

@@ -10,10 +10,10 @@ use Rattle.promises.specs.Survivors.{Call, mark, survivors}
 use Rattle.history.specs.Run.{History}
 use Rattle.history.specs.Script.{callsOf}
 
-pub record RunMeets (before after : List ℕ) (m k n : ℕ) (script images : List ℕ) (r : ℕ) : Type 0 where
+pub record RunMeets (before after : List ℕ) (m k n : ℕ) (script images codes : List ℕ) (r : ℕ) : Type 0 where
   -- for every script, wherever make is accepted
   pub made : (r ≡ 0) ↔ (ValidSizes (asked m k n) × (storeWords (asked m k n) ≤ length before))
-  pub history : r ≡ 0 → History (asked m k n) (callsOf images script) after
+  pub history : r ≡ 0 → History (asked m k n) (callsOf images codes script) after
 
 -- 01 "Sample panels": codes 0, 1, 4, then mark 2
 abbrev pub sampleCalls : List Call

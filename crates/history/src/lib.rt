@@ -2,7 +2,7 @@
 ghost use Prim.Native.Nat.{_+_, _*_, _≤_};
 ghost use mathlib.Core.Path.{_≡_};
 ghost use lib.ListN.{length, take, drop};
-ghost use Rattle.promises.specs.Survivors.{list, save, load};
+ghost use Rattle.promises.specs.Survivors.{list, save, load, fill};
 ghost use Rattle.history.specs.Run.{Step, Run};
 ghost use Rattle.history.specs.Script.{zeros, callOf, encodedAt, callsOf};
 ghost use Rattle.history.specs.Whole.{RunMeets, SampleRan};
@@ -44,9 +44,29 @@ fn load_step(store: &mut [u32], images: &[u8], a: u32, b: u32)
     register::load(store, part_of(images, wide(a), wide(b)));
 }
 
+// So many words from this place on, or as many as there are.
+fn words_from(words: &[u32], from: usize, number: usize) -> &[u32]
+    ensures { λ r. ⌜ now r ≡ take number (drop from (now (words .entry))) ⌝ }
+{
+    if words.len() <= from {
+        return &words[..0];
+    }
+    if words.len() - from <= number {
+        return &words[from..];
+    }
+    &words[from..from + number]
+}
+
+// fill, with a part of the codes beside the script.
+fn fill_step(store: &mut [u32], codes: &[u32], a: u32, b: u32)
+    ensures { λ _. ⌜ Step (fill (take b (drop a (now (codes .entry))))) (now (store .entry)) (now (store .exit)) ⌝ }
+{
+    register::fill(store, words_from(codes, wide(a), wide(b)));
+}
+
 // One call, run by calling it.
-fn step(store: &mut [u32], images: &[u8], call: Encoded)
-    ensures { λ _. ⌜ Step (callOf (now (images .entry)) call) (now (store .entry)) (now (store .exit)) ⌝ }
+fn step(store: &mut [u32], images: &[u8], codes: &[u32], call: Encoded)
+    ensures { λ _. ⌜ Step (callOf (now (images .entry)) (now (codes .entry)) call) (now (store .entry)) (now (store .exit)) ⌝ }
 {
     if call.number == 0 {
         register::mark(store, call.a, call.b);
@@ -76,6 +96,10 @@ fn step(store: &mut [u32], images: &[u8], call: Encoded)
         load_step(store, images, call.a, call.b);
         return;
     }
+    if call.number == 7 {
+        fill_step(store, codes, call.a, call.b);
+        return;
+    }
     register::check(store);
 }
 
@@ -96,24 +120,32 @@ fn encoded_at(script: &[u32], i: usize) -> Encoded
 }
 
 // All the calls of a script, each on the store as the one before it left it.
-pub fn replay(store: &mut [u32], script: &[u32], images: &[u8])
-    ensures { λ _. ⌜ Run (callsOf (now (images .entry)) (now (script .entry))) (now (store .entry)) (now (store .exit)) ⌝ }
+pub fn replay(store: &mut [u32], script: &[u32], images: &[u8], codes: &[u32])
+    ensures { λ _. ⌜ Run (callsOf (now (images .entry)) (now (codes .entry)) (now (script .entry))) (now (store .entry)) (now (store .exit)) ⌝ }
 {
     let mut i = 0;
     while i < script.len() / 6 {
         let call = encoded_at(script, i);
-        step(store, images, call);
+        step(store, images, codes, call);
         i += 1;
     }
 }
 
 // make, then a script: a whole history. It answers make's number.
-pub fn run(store: &mut [u32], m: u32, k: u32, most: u32, script: &[u32], images: &[u8]) -> u32
-    ensures { λ r. ⌜ RunMeets (now (store .entry)) (now (store .exit)) m k most (now (script .entry)) (now (images .entry)) r ⌝ }
+pub fn run(
+    store: &mut [u32],
+    m: u32,
+    k: u32,
+    most: u32,
+    script: &[u32],
+    images: &[u8],
+    codes: &[u32],
+) -> u32
+    ensures { λ r. ⌜ RunMeets (now (store .entry)) (now (store .exit)) m k most (now (script .entry)) (now (images .entry)) (now (codes .entry)) r ⌝ }
 {
     let number = answers::refusal_of(register::make(store, m, k, most));
     if number == 0 {
-        replay(store, script, images);
+        replay(store, script, images, codes);
     }
     number
 }
@@ -150,5 +182,6 @@ pub fn sample()
         0,
     ];
     let images = [0u8; 1];
-    run(&mut store, 3, 3, 4, &script, &images);
+    let codes = [0u32; 1];
+    run(&mut store, 3, 3, 4, &script, &images, &codes);
 }

@@ -4,3 +4,4 @@ pub mod ImageOfSet
 pub mod ImageBytes
 pub mod Accepted
 pub mod EntryWrites
+pub mod PartTaken

@@ -6,7 +6,7 @@ use mathlib.Core.Path.{_≡_}
 use Rattle.measures.specs.Sizes.{ValidSizes, storeWords}
 use Rattle.promises.specs.Calls.{asked}
 
--- all three; make, mark, clear and load hand over the refusal alone, and no value is beside it
+-- all three; make, mark, clear, load and fill hand over the refusal alone, and no value is beside it
 abbrev pub numbers : PkAnswer → Answer
 numbers r = record { refusal = r .refusal; first = r .first; second = r .second }
 

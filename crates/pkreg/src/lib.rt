@@ -4,7 +4,7 @@ ghost use mathlib.Core.Path.{_≡_};
 ghost use Rattle.promises.specs.Answer.{yesNo};
 ghost use Rattle.answers.specs.Answer.{numberOf};
 ghost use Rattle.promises.specs.Answer as answers;
-ghost use Rattle.promises.specs.Calls.{MakeMeets, MarkMeets, ClearMeets, LoadMeets, AskMeets, CountMeets, ListMeets, SaveMeets, CheckMeets};
+ghost use Rattle.promises.specs.Calls.{MakeMeets, MarkMeets, ClearMeets, LoadMeets, FillMeets, AskMeets, CountMeets, ListMeets, SaveMeets, CheckMeets};
 ghost use Rattle.pkreg.specs.Numbers.{numbers, WordsNeeded};
 use answers::Asking;
 use answers::Checking;
@@ -101,6 +101,13 @@ pub extern "C" fn pk_load(store: &mut [u32], image: &[u8]) -> u32
     ensures { λ r. ⌜ LoadMeets (now (store .entry)) (now (store .exit)) (now (image .entry)) (answers.refused r) ⌝ }
 {
     refusal_of(register::load(store, image))
+}
+
+#[no_mangle]
+pub extern "C" fn pk_fill(store: &mut [u32], codes: &[u32]) -> u32
+    ensures { λ r. ⌜ FillMeets (now (store .entry)) (now (store .exit)) (now (codes .entry)) (answers.refused r) ⌝ }
+{
+    refusal_of(register::fill(store, codes))
 }
 
 // first is 1 for a marked pixel, second the blocks opened.

@@ -18,6 +18,14 @@ pub fn is_marked(set: &Set, code: u32) -> bool {
     set[(code % 256) as usize]
 }
 
+pub fn mark_all(codes: &[u32], set: &mut Set) {
+    let mut i: usize = 0;
+    while i < codes.len() {
+        set[(codes[i] % 256) as usize] = true;
+        i += 1;
+    }
+}
+
 // Image order: entries ascend by code; at equal code the higher level comes first. Each code has five places, for the levels 4 to 0.
 pub fn code_at(place: u16) -> u32 {
     (place / 5) as u32

@@ -3,8 +3,10 @@ ghost use Prim.Native.Nat.{_≤_};
 use crate::blocks;
 use crate::blocks::Panel;
 use crate::blocks::Set;
+use crate::codes;
 use crate::codes::code_of;
 use crate::codes::side_of;
+use crate::codes::size_of;
 use crate::images;
 use crate::images::Bytes;
 use crate::window;
@@ -120,6 +122,25 @@ pub fn opened(panel: Panel, length: usize, first: usize) -> Answer {
         return answered(3, 0, 0);
     }
     answered(0, first, 0)
+}
+
+// 02, P2: the codes replace the set, if they are a set on the panel of at most N.
+pub fn fill(panel: Panel, length: usize, codes: &[u32], set: &mut Set) -> u32 {
+    if length < panel.words {
+        return 3;
+    }
+    if !codes::all_below(codes, size_of(panel.m)) {
+        return 4;
+    }
+    if (panel.most as usize) < codes.len() {
+        return 6;
+    }
+    if !codes::ascend(codes) {
+        return 14;
+    }
+    *set = [false; 256];
+    blocks::mark_all(codes, set);
+    0
 }
 
 pub fn load(panel: Panel, length: usize, bytes: &Bytes, image: usize, set: &mut Set) -> u32 {

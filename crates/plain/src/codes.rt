@@ -15,6 +15,29 @@ pub fn x_of(code: u32) -> u32 {
     (code & 1) | ((code >> 1) & 2) | ((code >> 2) & 4) | ((code >> 3) & 8)
 }
 
+pub fn all_below(codes: &[u32], end: u32) -> bool {
+    let mut i: usize = 0;
+    while i < codes.len() {
+        if end <= codes[i] {
+            return false;
+        }
+        i += 1;
+    }
+    true
+}
+
+// Strictly: each is above the one before it.
+pub fn ascend(codes: &[u32]) -> bool {
+    let mut i: usize = 1;
+    while i < codes.len() {
+        if codes[i] <= codes[i - 1] {
+            return false;
+        }
+        i += 1;
+    }
+    true
+}
+
 // A block of level i has side 2^i.
 pub fn side_of(level: u32) -> u32
     ensures { λ r. ⌜ (1 ≤ r) × (r ≤ 16) ⌝ }

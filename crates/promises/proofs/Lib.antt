@@ -9,3 +9,4 @@ pub mod SetTests
 pub mod ImageTests
 pub mod Keeping
 pub mod Rising
+pub mod MarkedSingly

@@ -7,3 +7,4 @@ pub mod Calls
 pub mod SetTest
 pub mod ImageTest
 pub mod Survivors
+pub mod Singly

@@ -1,6 +1,6 @@
 // The register of unfit pixels: the calls that are open to users. None has a requires; each has one ensures, over 01's number and values of its answer.
 ghost use Rattle.answers.specs.Answer.{answer, askAnswer, countAnswer, listAnswer, saveAnswer, checkAnswer};
-ghost use Rattle.promises.specs.Calls.{MakeMeets, MarkMeets, ClearMeets, AskMeets, CountMeets, ListMeets, SaveMeets, LoadMeets, CheckMeets};
+ghost use Rattle.promises.specs.Calls.{MakeMeets, MarkMeets, ClearMeets, AskMeets, CountMeets, ListMeets, SaveMeets, LoadMeets, FillMeets, CheckMeets};
 use answers::Asking;
 use answers::Checking;
 use answers::Counting;
@@ -111,6 +111,16 @@ pub fn load(store: &mut [u32], image: &[u8]) -> Outcome
         return Outcome::Refused(Refusal::NoRegister);
     };
     loading::load::load(store, sizes, image)
+}
+
+// 02, P2: the register of these codes, of the same sizes; they ascend strictly, and are judged before a word is written.
+pub fn fill(store: &mut [u32], codes: &[u32]) -> Outcome
+    ensures { λ r. ⌜ FillMeets (now (store .entry)) (now (store .exit)) (now (codes .entry)) (answer r) ⌝ }
+{
+    let SizesRead::Usable(sizes) = read_sizes(store) else {
+        return Outcome::Refused(Refusal::NoRegister);
+    };
+    filling::fill::fill(store, sizes, codes)
 }
 
 // 01: yes exactly when sound.

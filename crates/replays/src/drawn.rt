@@ -17,13 +17,16 @@ fn below_16(seed: u32, place: u32) -> u32
     scrambled(std::num::wrapping_add_u32(scrambled(seed), place)) % 16
 }
 
-// The call's number: mark more often than clear, then ask, list, save and load.
+// The call's number: mark more often than clear, then fill, ask, list, save and load.
 fn number_drawn(seed: u32, call: u32) -> u32
-    ensures { λ r. ⌜ r ≤ 6 ⌝ }
+    ensures { λ r. ⌜ r ≤ 7 ⌝ }
 {
     let d = below_16(seed, call);
-    if d < 9 {
+    if d < 8 {
         return 0;
+    }
+    if d == 8 {
+        return 7;
     }
     if d < 12 {
         return 1;
@@ -34,7 +37,7 @@ fn number_drawn(seed: u32, call: u32) -> u32
     d - 9
 }
 
-// A word of the script: calls have six words, load takes the image whole.
+// A word of the script: calls have six words, load takes the image whole, fill a part of the codes.
 pub fn word_drawn(seed: u32, place: u32) -> u32
     ensures { λ r. ⌜ r ≤ 40 ⌝ }
 {
@@ -49,5 +52,9 @@ pub fn word_drawn(seed: u32, place: u32) -> u32
         }
         return 0;
     }
-    below_16(seed ^ 0x55555555, place) % 8
+    let drawn = below_16(seed ^ 0x55555555, place);
+    if number == 7 {
+        return drawn;
+    }
+    drawn % 8
 }

@@ -82,8 +82,28 @@ fn replay_both(first: &mut [u32], second: &mut [u32], script: &mut [u32]) {
     replay(second, 20, script);
 }
 
-// A list of calls on a fresh register; its loads take 01's first sample panel.
+// A list of calls on a fresh register; its loads take 01's first sample panel, its fills parts of codes that ascend but for one and leave the panel last.
 fn replay(store: &mut [u32], n: u32, script: &[u32]) {
+    let codes = [
+        0u32,
+        1,
+        2,
+        4,
+        5,
+        9,
+        12,
+        16,
+        17,
+        18,
+        27,
+        27,
+        33,
+        48,
+        49,
+        60,
+        63,
+        64,
+    ];
     history::run(
         store,
         3,
@@ -91,6 +111,7 @@ fn replay(store: &mut [u32], n: u32, script: &[u32]) {
         n,
         script,
         b"\x03\x03\x06\x00\x00\x00\x04\x00\x00\x00\x00\x00\x00\x00\x00\x00\x00\x00\x00\x00\x00\x00\x01\x00\x00\x00\x02\x00\x00\x00\x3c\x00\x00\x00\x03\x01\x00\x00\x00\x00",
+        &codes,
     );
 }
 
@@ -139,9 +160,9 @@ fn word_of_mark(codes: &[u32], found: usize, i: usize) -> u32 {
     0
 }
 
-// 7 is check, which leaves everything.
+// 8 is check, which leaves everything.
 fn check_word(part: usize) -> u32 {
-    if part == 0 { 7 } else { 0 }
+    if part == 0 { 8 } else { 0 }
 }
 
 // Clears the pixel that the survivors' script marks first, if there is one.

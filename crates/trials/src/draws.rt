@@ -94,6 +94,36 @@ pub fn number_drawn(seed: u32, place: u32, right: u32, below: u32, above: u32) -
     right
 }
 
+// From none to one more than the panel has, if there are so many.
+pub fn code_number_drawn(seed: u32, panel: Panel, all: usize) -> usize
+    ensures { λ r. ⌜ r ≤ all ⌝ }
+{
+    let number = draw(seed, 16, 2 + size_of(panel.m)) as usize;
+    if all < number {
+        return all;
+    }
+    number
+}
+
+// Codes that ascend in even steps, or are all alike; often one of them is another.
+pub fn draw_codes(seed: u32, panel: Panel, codes: &mut [u32]) {
+    write_steps(codes, draw(seed, 18, 3), draw(seed, 17, 4));
+    let at = draw(seed, 19, 258) as usize;
+    if at < codes.len() {
+        codes[at] = draw(seed, 20, 2 * size_of(panel.m));
+    }
+}
+
+fn write_steps(codes: &mut [u32], first: u32, step: u32) {
+    let mut code = first;
+    let mut i: usize = 0;
+    while i < codes.len() {
+        codes[i] = code;
+        code = std::num::wrapping_add_u32(code, step);
+        i += 1;
+    }
+}
+
 // The image of another panel may become one of this panel; any byte may be wrong; often none is changed.
 pub fn change(seed: u32, panel: Panel, image: &mut Bytes) {
     let kind = draw(seed, 7, 8);

@@ -32,9 +32,8 @@ fn refusals(got: u32, want: u32) -> Step {
     both(answered(got, 0, 0), answered(want, 0, 0), true)
 }
 
-// The calls by their numbers: mark, clear, ask, count, list, save, load, make, check. In each stretch of a history one of the first two prevails.
+// The calls by their numbers: mark, clear, ask, count, list, save, load, fill, make, check. In each stretch of a history one of the first two prevails.
 const CALLS: [u32; 32] = [
-    0,
     0,
     0,
     0,
@@ -66,6 +65,7 @@ const CALLS: [u32; 32] = [
     6,
     6,
     7,
+    8,
 ];
 
 pub fn call_drawn(seed: u32, clearing: u32) -> u32 {
@@ -73,10 +73,10 @@ pub fn call_drawn(seed: u32, clearing: u32) -> u32 {
     if call < 2 {
         return call ^ clearing;
     }
-    if call < 7 {
+    if call < 8 {
         return call;
     }
-    7 + draws::draw(seed, 15, 2)
+    8 + draws::draw(seed, 15, 2)
 }
 
 // The store is lent whole; one time in 16 just as long as needed or one word shorter.
@@ -106,7 +106,8 @@ fn run_on(
     match call {
         5 => save(seed, panel, store, set, image),
         6 => load(seed, panel, store, set, image),
-        7 => make(seed, panel, store, set),
+        7 => fill(seed, panel, store, set),
+        8 => make(seed, panel, store, set),
         _ => check(panel, store),
     }
 }
@@ -204,6 +205,29 @@ fn load_part(store: &mut [u32], bytes: &[u8], end: usize) -> u32 {
         return 0;
     }
     refusal_of(register::load(store, &bytes[..end]))
+}
+
+// A panel of order 4 has 256 codes.
+fn fill(seed: u32, panel: Panel, store: &mut [u32], set: &mut Set) -> Step {
+    let mut codes = [0u32; 257];
+    fill_drawn(seed, panel, store, set, &mut codes)
+}
+
+fn fill_drawn(
+    seed: u32,
+    panel: Panel,
+    store: &mut [u32],
+    set: &mut Set,
+    codes: &mut [u32],
+) -> Step {
+    draws::draw_codes(seed, panel, codes);
+    let number = draws::code_number_drawn(seed, panel, codes.len());
+    fill_with(panel, store, set, &codes[..number])
+}
+
+fn fill_with(panel: Panel, store: &mut [u32], set: &mut Set, codes: &[u32]) -> Step {
+    let got = refusal_of(register::fill(store, codes));
+    refusals(got, calls::fill(panel, store.len(), codes, set))
 }
 
 // Each number is the panel's, or now and then just beyond its limits.

@@ -1,23 +1,18 @@
-use Prim.Native.Nat.{ℕ}
-use mathlib.Core.Path.{_≡_, ap₂, subst, _∙_}
-use mathlib.Core.List.{List}
-use lib.ListN.{take, drop}
 use Rattle.promises.specs.Survivors.{load}
-use Rattle.history.specs.Run.{Step}
-use Rattle.history.proofs.CallSteps.{load-step}
+use Rattle.history.proofs.CallSteps.{load-step, of-part}
 use borrow.Author.Needs.{needs}
 use Rattle.history.proofs.load_step.Statement.{statement}
 use Rattle.history.proofs.load_step.Tie as tie
 
 returns : tie.Need-returns
 returns c =
-    let a = c .before .before .before .before .before .before .before .before .before .args in
-    let after = c .before .before .load .last .0 in
-    let part = c .before .before .before .part-of in
-    let is : part .result .now ≡ take (a .b) (drop (a .a) (a .images .now)) =
-    part .ensures ∙ ap₂ (λ (n at : ℕ). take n (drop at (a .images .now))) (c .before .before .before .before .wide2 .ensures) (c .before .before .before .before .before .wide .ensures) in
-    subst (λ (bytes : List ℕ). Step (load bytes) (a .store .now) after) is
-    (load-step (a .store .now) after (part .result .now) (c .before .before .load .result) (c .before .before .load .ensures))
+    let done = c .before .before in
+    let part = done .before in
+    let second = part .before in
+    let first = second .before in
+    let args = first .before .before .before .before .args in
+    of-part load (args .images .now) (args .store .now) (done .load .last .0) (part .part-of .result .now) (first .wide .result) (second .wide2 .result) (args .a) (args .b)
+    (part .part-of .ensures) (first .wide .ensures) (second .wide2 .ensures) (load-step _ _ _ (done .load .result) (done .load .ensures))
 
 pub load-step-spec : {M : Type 1} → statement M
 load-step-spec =

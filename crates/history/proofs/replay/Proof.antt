@@ -12,16 +12,16 @@ use Rattle.history.proofs.CallSteps.{run-then}
 use Rattle.history.proofs.replay.Statement.{statement}
 use Rattle.history.proofs.replay.Tie as tie
 
-one-more : (images script : List ℕ) (i : ℕ) {before between after : List ℕ} → Run (callsTo images script i) before between
-    → Step (callOf images (encodedAt script i)) between after → Run (callsTo images script (i + 1)) before after
+one-more : (images codes script : List ℕ) (i : ℕ) {before between after : List ℕ} → Run (callsTo images codes script i) before between
+    → Step (callOf images codes (encodedAt script i)) between after → Run (callsTo images codes script (i + 1)) before after
 unfolding callsTo
-one-more images script i run step = rw (add-one i) (run-then run step)
+one-more images codes script i run step = rw (add-one i) (run-then run step)
 
 abbrev Inv-loop : tie.InvT-loop
-Inv-loop store₀ script images i₀ store i = (i ≤ length script / 6) × (length store ≡ length store₀) × Run (callsTo images script i) store₀ store
+Inv-loop store₀ script images codes i₀ store i = (i ≤ length script / 6) × (length store ≡ length store₀) × Run (callsTo images codes script i) store₀ store
 
 abbrev μ-loop : tie.MeasureT-loop
-μ-loop store₀ script images i₀ store i = length script / 6 - i
+μ-loop store₀ script images codes i₀ store i = length script / 6 - i
 
 loop-holds : tie.Need-loop-holds Inv-loop μ-loop
 unfolding callsTo
@@ -39,13 +39,14 @@ loop-less c = omega arith
 loop-again : tie.Need-loop-again Inv-loop μ-loop
 loop-again c =
     let l = c .before .before .before .before .before .before in
-    let args = l .before .before .before .before .args in
+    let args = l .before .before .before .before .before .args in
     let images = args .images .now in
+    let codes = args .codes .now in
     let call = c .before .before .before .before .encoded-at in (
       omega arith,
       search needs,
-      one-more images (args .script .now) (l .loop .i) (l .loop .inv .2)
-          (subst (λ (e : Encoded). Step (callOf images e) (l .loop .store) (c .before .before .step .last .0)) (call .ensures) (c .before .before .step .ensures)),
+      one-more images codes (args .script .now) (l .loop .i) (l .loop .inv .2)
+          (subst (λ (e : Encoded). Step (callOf images codes e) (l .loop .store) (c .before .before .step .last .0)) (call .ensures) (c .before .before .step .ensures)),
     )
 
 same-length : tie.Need-same-length Inv-loop μ-loop
@@ -53,7 +54,7 @@ same-length c = omega arith
 
 returns : tie.Need-returns Inv-loop μ-loop
 returns c =
-    let script = c .before .before .before .before .before .args .script .now in
+    let script = c .before .before .before .before .before .before .args .script .now in
     let e : c .before .loop .i ≡ length script / 6 = omega arith in
     rw (← e) (c .before .loop .inv .2)
 

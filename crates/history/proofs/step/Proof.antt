@@ -26,18 +26,22 @@ returns-6 c = rw (c .before .before .if6 .taken) (c .save-step .ensures)
 returns-7 : tie.Need-returns-7
 returns-7 c = rw (c .before .before .before .before .if7 .taken) (c .before .before .load-step .ensures)
 
--- no number of a call: check
 returns-8 : tie.Need-returns-8
-returns-8 c =
-    let loads = c .before .before in
+returns-8 c = rw (c .before .before .before .before .if8 .taken) (c .before .before .fill-step .ensures)
+
+-- no number of a call: check
+returns-9 : tie.Need-returns-9
+returns-9 c =
+    let fills = c .before .before in
+    let loads = fills .before .before in
     let saves = loads .before .before in
     let lists = saves .before .before in
     let counts = lists .before .before in
     let asks = counts .before .before in
     let clears = asks .before .before in
     let marks = clears .before .before in
-    let number = marks .before .before .before .before .args .call .number in
-    rw (ne-eqb number 0 (marks .if1 .left), ne-eqb number 1 (clears .if2 .left), ne-eqb number 2 (asks .if3 .left), ne-eqb number 3 (counts .if4 .left), ne-eqb number 4 (lists .if5 .left), ne-eqb number 5 (saves .if6 .left), ne-eqb number 6 (loads .if7 .left))
+    let number = marks .before .before .before .before .before .args .call .number in
+    rw (ne-eqb number 0 (marks .if1 .left), ne-eqb number 1 (clears .if2 .left), ne-eqb number 2 (asks .if3 .left), ne-eqb number 3 (counts .if4 .left), ne-eqb number 4 (lists .if5 .left), ne-eqb number 5 (saves .if6 .left), ne-eqb number 6 (loads .if7 .left), ne-eqb number 7 (fills .if8 .left))
     (check-step _ (c .check .result) (c .check .ensures))
 
 pub step-spec : {M : Type 1} → statement M
@@ -67,4 +71,7 @@ step-spec =
     returns-7
     (λ c κs. search needs)
     (λ c. search needs)
-    returns-8)
+    returns-8
+    (λ c κs. search needs)
+    (λ c. search needs)
+    returns-9)
