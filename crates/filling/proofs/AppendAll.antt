@@ -40,9 +40,17 @@ building-first {sizes} e due =
       room = omega (arith, due .room);
     })
 
+pub appended-itself : {sizes : Sizes} {layout : Layout} {words stack done later : List ℕ} {build : Build} → Building sizes layout words stack build done later
+    → Appended sizes layout words words stack build done later
+appended-itself {layout = layout} {words = words} b = record { beside = beside-itself layout words; building = b }
+
+pub appended-then : {sizes : Sizes} {layout : Layout} {words₀ words words′ stack stack′ done later done′ later′ : List ℕ} {build r : Build}
+    → Appended sizes layout words₀ words stack build done later → Appended sizes layout words words′ stack′ r done′ later′ → Appended sizes layout words₀ words′ stack′ r done′ later′
+appended-then a b = record { beside = beside-then (a .beside) (b .beside); building = b .building }
+
 pub none-appended : {sizes : Sizes} {layout : Layout} {words stack codes : List ℕ} {build : Build} → build ≡ emptyBuild → FillAt sizes layout words stack codes
     → Appended sizes layout words words stack build [] codes
-none-appended {layout = layout} {words = words} e due = record { beside = beside-itself layout words; building = building-first e due }
+none-appended e due = appended-itself (building-first e due)
 
 -- the next code is the first of those to come
 pub append-due : {sizes : Sizes} {layout : Layout} {words₀ words stack done later : List ℕ} {build : Build} {code : ℕ} → Appended sizes layout words₀ words stack build done (code ∷ later)
@@ -52,7 +60,7 @@ append-due {done = done} {later = later} a = record { done = done; later = later
 pub one-appended : {sizes : Sizes} {layout : Layout} {words₀ words stack words′ stack′ done later : List ℕ} {build r : Build} {code : ℕ}
     → Appended sizes layout words₀ words stack build done (code ∷ later) → AppendDone sizes layout build code words words′ stack stack′ r
     → Appended sizes layout words₀ words′ stack′ r (done ++ (code ∷ [])) later
-one-appended {done = done} {later = later} a d = record { beside = beside-then (a .beside) (d .beside); building = d .right done later (a .building) }
+one-appended {done = done} {later = later} a d = appended-then a (record { beside = d .beside; building = d .right done later (a .building) })
 
 pub stack-kept : {sizes : Sizes} {layout : Layout} {words₀ words stack₀ stack codes done later : List ℕ} {build : Build} → FillAt sizes layout words₀ stack₀ codes
     → Appended sizes layout words₀ words stack build done later → length stack ≡ length stack₀

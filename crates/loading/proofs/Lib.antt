@@ -1,4 +1,3 @@
-pub mod NextPixels
-pub mod Filling
+pub mod EntryPixels
 pub mod ImagePixels
 pub mod LoadEnds

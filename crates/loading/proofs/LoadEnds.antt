@@ -1,19 +1,21 @@
 -- What each end of load ensures, from what its tests decide: a refusal leaves the store, and the set of an accepted image is held.
 use Prim.Native.Nat.{ℕ}
 use native.Mathlib.Omega.{arith}
-use mathlib.Core.Path.{_≡_, refl, subst}
+use mathlib.Core.Path.{_≡_, refl, ap, subst}
 use mathlib.Core.Bool.{Bool, true, false, not}
 use mathlib.Core.List.{List}
+use lib.ListN.{length}
 use borrow.Author.Tests.{not-true, not-false}
 use Rattle.measures.specs.declared.sizes.Sizes.{Sizes}
 use Rattle.measures.specs.Decides.{Decides}
 use Rattle.measures.specs.Sizes.{panelOf, sizesOf, UsableStore}
 use Rattle.store.specs.Sound.{Holds}
 use Rattle.measures.proofs.Decides.{decided-true, decided-false}
-use Rattle.image.specs.Parts.{codesPart, levelsPart}
+use Rattle.filling.specs.Fill.{Replaced}
+use Rattle.image.specs.Parts.{pixelNumber, codesPart, levelsPart}
 use Rattle.image.specs.Judged.{WellFormed, FitsRegister, ImageOfSome}
 use Rattle.reader.specs.Reading.{CanRead}
-use Rattle.loading.specs.Filled.{pixelsGiven, ReplaceDue, Replaced}
+use Rattle.loading.specs.Filled.{pixelsGiven, ReplaceDue}
 use Rattle.promises.specs.Answer.{accepted, refused}
 use Rattle.promises.specs.Effect.{effect, passed, stopped}
 use Rattle.promises.specs.Calls.{Loads}
@@ -64,14 +66,17 @@ module _ (before bytes : List ℕ) (sizes : Sizes) (first second : Bool) (usable
 module _ (before bytes codes levels : List ℕ) (sizes : Sizes) (first second third : Bool) (usable : UsableStore before) (is : sizes ≡ sizesOf before)
     (codes-are : codes ≡ codesPart bytes) (levels-are : levels ≡ levelsPart bytes) (well : not first ≡ false) (formed : Decides first (WellFormed bytes))
     (like : not second ≡ false) (fits : Decides second (Fits bytes sizes)) (of-set : not third ≡ false) (some : Decides third (Some bytes sizes)) where
-  pub replace-due : ReplaceDue before sizes codes levels
-  replace-due =
+  pub replace-due : (number : ℕ) → number ≡ pixelNumber bytes → ReplaceDue before sizes codes levels number
+  replace-due number number-is =
       let w = well-formed before bytes first well formed in
       let f = test-passed second (Fits bytes sizes) like fits in
+      let s = test-passed third (Some bytes sizes) of-set some in
+      let e = arrays-tell-set bytes w (panelOf sizes) (rw is (usable .valid .panel)) s in
       record {
         usable = usable;
         sizes-are = is;
-        given = rw (codes-are, levels-are) (arrays-fit bytes w sizes (rw is (usable .valid .panel)) f (test-passed third (Some bytes sizes) of-set some));
+        given = rw (codes-are, levels-are) (arrays-fit bytes w sizes (rw is (usable .valid .panel)) f s);
+        number-is = rw (codes-are, levels-are) (omega (arith, number-is, s .of-n, ap length e));
       }
 
   pub set-loaded : (after : List ℕ) → Replaced before after (pixelsGiven codes levels) → Loads before bytes (effect (accepted 0 0) before after)

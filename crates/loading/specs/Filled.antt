@@ -1,18 +1,25 @@
 -- A store that comes to hold the pixels of an image's entries.
-use Prim.Native.Nat.{ℕ, _*_, _≤_, _<_}
+use Prim.Native.Nat.{ℕ, _-_, _*_, _≤_, _<_}
 use mathlib.Core.Path.{_≡_}
-use mathlib.Core.List.{List, []}
-use lib.ListN.{length, take, drop}
+use mathlib.Core.List.{List}
+use lib.ListN.{length}
 use Rattle.pktree.specs.PixelSet.{PixelSet}
 use Rattle.pktree.specs.Entries.{pixelEntries}
 use Rattle.measures.specs.declared.sizes.Sizes.{Sizes}
-use Rattle.measures.specs.Sizes.{panelOf, sizesOf, storeWords, UsableStore}
-use Rattle.store.specs.Sound.{Holds}
+use Rattle.measures.specs.declared.sizes.Layout.{Layout}
+use Rattle.measures.specs.Sizes.{panelOf, sizesOf, UsableStore}
+use Rattle.filling.specs.declared.build.Build.{Build}
+use Rattle.filling.specs.Build.{Building}
+use Rattle.filling.specs.Fill.{FillAt}
 use Rattle.image.specs.Parts.{entriesAt}
 
 -- the codes of the pixels among the first n entries
 abbrev pub pixelsTo : List ℕ → List ℕ → ℕ → List ℕ
 pixelsTo codes levels n = pixelEntries (entriesAt codes levels n 0)
+
+-- among those from this one on
+abbrev pub pixelsFrom : List ℕ → List ℕ → ℕ → List ℕ
+pixelsFrom codes levels at = pixelEntries (entriesAt codes levels (length levels - at) at)
 
 -- among all: each entry has one level
 abbrev pub pixelsGiven : List ℕ → List ℕ → List ℕ
@@ -24,29 +31,20 @@ pub record EntriesFit (sizes : Sizes) (codes levels : List ℕ) : Type 0 where
   pub on-panel : PixelSet (panelOf sizes) (pixelsGiven codes levels)
   pub room : length (pixelsGiven codes levels) ≤ sizes .most
 
--- the pixels of the entries before this one are held
-pub record EntryDue (words : List ℕ) (sizes : Sizes) (codes levels : List ℕ) (at : ℕ) : Type 0 where
-  pub holds : Holds words (pixelsTo codes levels at)
-  pub sizes-are : sizes ≡ sizesOf words
-  pub given : EntriesFit sizes codes levels
+-- the pixels of the entries before this one are built
+pub record EntryDue (sizes : Sizes) (layout : Layout) (words stack : List ℕ) (build : Build) (codes levels : List ℕ) (at : ℕ) : Type 0 where
+  pub building : Building sizes layout words stack build (pixelsTo codes levels at) (pixelsFrom codes levels at)
+  pub codes-long : length codes ≡ 4 * length levels
   pub below : at < length levels
 
--- no pixel is held
-pub record FillDue (words : List ℕ) (sizes : Sizes) (codes levels : List ℕ) : Type 0 where
-  pub holds : Holds words []
-  pub sizes-are : sizes ≡ sizesOf words
-  pub given : EntriesFit sizes codes levels
+-- no pixel is built yet
+pub record EntriesAt (sizes : Sizes) (layout : Layout) (words stack codes levels : List ℕ) : Type 0 where
+  pub begun : FillAt sizes layout words stack (pixelsGiven codes levels)
+  pub codes-long : length codes ≡ 4 * length levels
 
 -- whatever the words from 4 on are
-pub record ReplaceDue (words : List ℕ) (sizes : Sizes) (codes levels : List ℕ) : Type 0 where
+pub record ReplaceDue (words : List ℕ) (sizes : Sizes) (codes levels : List ℕ) (number : ℕ) : Type 0 where
   pub usable : UsableStore words
   pub sizes-are : sizes ≡ sizesOf words
   pub given : EntriesFit sizes codes levels
-
--- the store holds this set; words 0 to 3 and those past the formula are as they were
-pub record Replaced (before after set : List ℕ) : Type 0 where
-  pub holds : Holds after set
-  pub sizes-same : sizesOf after ≡ sizesOf before
-  pub head : take 4 after ≡ take 4 before
-  pub past : drop (storeWords (sizesOf before)) after ≡ drop (storeWords (sizesOf before)) before
-  pub long : length after ≡ length before
+  pub number-is : number ≡ length (pixelsGiven codes levels)

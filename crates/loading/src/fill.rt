@@ -1,38 +1,90 @@
 ghost use Prim.Native.Nat.{_+_};
-ghost use Rattle.loading.specs.Filled.{pixelsTo, pixelsGiven, EntryDue, FillDue, ReplaceDue, Replaced};
+ghost use mathlib.Core.Path.{_≡_};
+ghost use mathlib.Core.List.{[]};
+ghost use lib.ListN.{length};
+ghost use Rattle.filling.specs.Fill.{Appended, Replaced};
+ghost use Rattle.loading.specs.Filled.{pixelsTo, pixelsFrom, pixelsGiven, EntryDue, EntriesAt, ReplaceDue};
+use filling::build::Build;
+use filling::build::append;
+use filling::fill::empty_build;
+use filling::fill::empty_stack;
+use filling::fill::finish;
 use image::parts::byte_at;
 use image::parts::code_at;
+use measures::sizes::Layout;
 use measures::sizes::Sizes;
-use store::reset::reset;
-use update::marks::mark;
+use measures::sizes::layout_of;
 
-// One entry of the image: a pixel is marked, a block is passed over, since marking makes the blocks.
-fn fill_entry(store: &mut [u32], sizes: Sizes, codes: &[u8], levels: &[u8], at: usize)
-    requires { ⌜ EntryDue (now store) sizes (now codes) (now levels) at ⌝ }
-    ensures { λ _. ⌜ Replaced (now (store .entry)) (now (store .exit)) (pixelsTo (now (codes .entry)) (now (levels .entry)) (at + 1)) ⌝ }
+// One entry of the image: a pixel is appended, a block is passed over, since the pixels make the blocks.
+fn append_entry(
+    store: &mut [u32],
+    sizes: Sizes,
+    layout: Layout,
+    stack: &mut [u32],
+    build: Build,
+    codes: &[u8],
+    levels: &[u8],
+    at: usize,
+) -> Build
+    requires { ⌜ EntryDue sizes layout (now store) (now stack) build (now codes) (now levels) at ⌝ }
+    ensures { λ r. ⌜ Appended sizes layout (now (store .entry)) (now (store .exit)) (now (stack .exit)) r (pixelsTo (now (codes .entry)) (now (levels .entry)) (at + 1)) (pixelsFrom (now (codes .entry)) (now (levels .entry)) (at + 1)) ⌝ }
 {
     if byte_at(levels, at) == 0 {
-        mark(store, sizes, code_at(codes, at));
+        return append(store, sizes, layout, stack, build, code_at(codes, at));
     }
+    build
 }
 
-// The pixels of an image, marked one by one in an empty register.
-fn fill(store: &mut [u32], sizes: Sizes, codes: &[u8], levels: &[u8])
-    requires { ⌜ FillDue (now store) sizes (now codes) (now levels) ⌝ }
-    ensures { λ _. ⌜ Replaced (now (store .entry)) (now (store .exit)) (pixelsGiven (now (codes .entry)) (now (levels .entry))) ⌝ }
+fn append_entries(
+    store: &mut [u32],
+    sizes: Sizes,
+    layout: Layout,
+    stack: &mut [u32],
+    codes: &[u8],
+    levels: &[u8],
+) -> Build
+    requires { ⌜ EntriesAt sizes layout (now store) (now stack) (now codes) (now levels) ⌝ }
+    ensures { λ r. ⌜ Appended sizes layout (now (store .entry)) (now (store .exit)) (now (stack .exit)) r (pixelsGiven (now (codes .entry)) (now (levels .entry))) [] ⌝ }
 {
+    let mut build = empty_build();
     let mut at: usize = 0;
     while at < levels.len() {
-        fill_entry(store, sizes, codes, levels, at);
+        build = append_entry(store, sizes, layout, stack, build, codes, levels, at);
         at += 1;
     }
+    build
 }
 
-// The register of these pixels; only words 0 to 3 are relied on.
-pub fn replace(store: &mut [u32], sizes: Sizes, codes: &[u8], levels: &[u8])
-    requires { ⌜ ReplaceDue (now store) sizes (now codes) (now levels) ⌝ }
+fn replace_with(
+    store: &mut [u32],
+    sizes: Sizes,
+    layout: Layout,
+    stack: &mut [u32],
+    codes: &[u8],
+    levels: &[u8],
+    number: u32,
+)
+    requires { ⌜ EntriesAt sizes layout (now store) (now stack) (now codes) (now levels) ⌝ }
+    requires { ⌜ number ≡ length (pixelsGiven (now codes) (now levels)) ⌝ }
     ensures { λ _. ⌜ Replaced (now (store .entry)) (now (store .exit)) (pixelsGiven (now (codes .entry)) (now (levels .entry))) ⌝ }
 {
-    reset(store, sizes);
-    fill(store, sizes, codes, levels);
+    let build = append_entries(store, sizes, layout, stack, codes, levels);
+    finish(store, sizes, layout, stack, build, number);
+}
+
+// The register of these pixels, of which there are so many; only words 0 to 3 are relied on.
+pub fn replace(store: &mut [u32], sizes: Sizes, codes: &[u8], levels: &[u8], number: u32)
+    requires { ⌜ ReplaceDue (now store) sizes (now codes) (now levels) number ⌝ }
+    ensures { λ _. ⌜ Replaced (now (store .entry)) (now (store .exit)) (pixelsGiven (now (codes .entry)) (now (levels .entry))) ⌝ }
+{
+    let mut stack = empty_stack();
+    replace_with(
+        store,
+        sizes,
+        layout_of(sizes),
+        &mut stack,
+        codes,
+        levels,
+        number,
+    );
 }

@@ -10,6 +10,7 @@ use image::fit::fits_register;
 use image::parts::codes_part;
 use image::parts::is_well_formed;
 use image::parts::levels_part;
+use image::parts::pixel_number;
 use measures::sizes::Sizes;
 use reader::is_image_of_some;
 
@@ -27,6 +28,7 @@ pub fn load(store: &mut [u32], sizes: Sizes, image: &[u8]) -> Outcome
     if !is_image_of_some(image, sizes.order, sizes.k) {
         return Outcome::Refused(Refusal::ImageDamaged);
     }
-    replace(store, sizes, codes_part(image), levels_part(image));
+    let number = pixel_number(image);
+    replace(store, sizes, codes_part(image), levels_part(image), number);
     Outcome::Done
 }

@@ -1,4 +1,4 @@
--- `loading::load::load` meets its contract: the three judgements come before `replace`, which then has the image's own set to mark.
+-- `loading::load::load` meets its contract: the three judgements come before `replace`, which then has the image's own set to build.
 use borrow.Author.Needs.{needs}
 use Rattle.loading.proofs.LoadEnds.{refused-malformed, well-formed, refused-unfit, can-read, refused-no-image, replace-due, set-loaded}
 use Rattle.loading.proofs.load.load.Statement.{statement}
@@ -23,6 +23,7 @@ load-spec =
     (λ c. search (needs, refused-unfit))
     is-image-of-some-requires
     (λ c. search (needs, refused-no-image))
+    (λ c κs. search (needs, well-formed))
     (λ c κs. search (needs, well-formed))
     (λ c κs. search (needs, well-formed))
     replace-requires
