@@ -48,18 +48,18 @@ module _ {sizes : Sizes} {layout : Layout} {words stack : List ℕ} {build : Bui
   room = omega (arith, due .building .room)
 
   -- no code is to come: every block below the root is complete
-  pack-at : PackCompleteAt sizes layout words stack build (sizes .order) (4 ^ sizes .order) codes
-  pack-at = record {
+  pack-at : (limit : ℕ) → limit ≤ sizes .order → PackCompleteAt sizes layout words stack build limit (4 ^ sizes .order) codes
+  pack-at limit to = record {
     ground = due .building .ground;
     grown = grown-more (4 ^ m) (due .building .to-inside) (due .building .grown);
     room = room;
-    limit-to = omega arith;
+    limit-to = to;
     complete = λ j l. omega (arith, block-inside j m (build .last) 0 (omega arith) (aligned-root m) (omega arith) (omega (arith, due .building .last-inside)) .1);
   }
 
   module _ {words₁ stack₁ : List ℕ} {r : Build} (packed : PackCompleteDone sizes layout build (sizes .order) words words₁ stack stack₁ r) where
     after : CompletePacked sizes layout words₁ stack₁ r (sizes .order) (4 ^ sizes .order) codes
-    after = packed .right (4 ^ m) codes pack-at
+    after = packed .right (4 ^ m) codes (pack-at m (omega arith))
 
     abbrev es : Placed
     es = after .grown .placed
@@ -162,8 +162,8 @@ module _ {sizes : Sizes} {layout : Layout} {words stack : List ℕ} {build : Bui
 
 -- the same of what code is due
 module _ {sizes : Sizes} {layout : Layout} {words stack : List ℕ} {build : Build} {number : ℕ} (due : FinishDue sizes layout words stack build number) where
-  pub pack-all-due : PackCompleteDue sizes layout words stack build (sizes .order)
-  pack-all-due = record { to = 4 ^ sizes .order; codes = due .codes; due = pack-at (due .due) }
+  pub pack-below-due : (limit : ℕ) → limit ≤ sizes .order → PackCompleteDue sizes layout words stack build limit
+  pack-below-due limit to = record { to = 4 ^ sizes .order; codes = due .codes; due = pack-at (due .due) limit to }
 
   module _ {words₁ stack₁ : List ℕ} {r : Build} (packed : PackCompleteDone sizes layout build (sizes .order) words words₁ stack stack₁ r) where
     pub lay-root-due : LayDue layout words₁ 0 stack₁ (r .count)

@@ -1,6 +1,6 @@
 -- `filling::fill::finish` meets its contract: all blocks are packed, the root is laid, the other slots are freed, and the pixels counted.
 use borrow.Author.Needs.{needs}
-use Rattle.filling.proofs.Finishing.{pack-all-due, lay-root-due, free-rest-due, length-kept, finished}
+use Rattle.filling.proofs.Finishing.{pack-below-due, lay-root-due, free-rest-due, length-kept, finished}
 use Rattle.filling.proofs.fill.finish.Statement.{statement}
 use Rattle.filling.proofs.fill.finish.Tie as tie
 
@@ -8,7 +8,7 @@ pub finish-spec : {M : Type 1} → statement M
 finish-spec =
     tie.close
     (tie.spec
-    (λ c κs. search (needs, pack-all-due))
+    (λ c κs. search (needs, pack-below-due))
     (λ c κs. search (needs, lay-root-due))
     (λ c κs. search (needs, free-rest-due))
     (λ c. search needs)
