@@ -13,6 +13,9 @@ Inv-loop store₀ sizes layout stack₀ codes build₀ at₀ store stack build a
 abbrev μ-loop : tie.MeasureT-loop
 μ-loop store₀ sizes layout stack₀ codes build₀ at₀ store stack build at = length codes - at
 
+returns : tie.Need-returns Inv-loop μ-loop
+returns c = search (needs, all-appended)
+
 pub append-all-spec : {M : Type 1} → statement M
 append-all-spec =
     tie.close
@@ -29,4 +32,4 @@ append-all-spec =
     (λ c. search (needs, next-appended))
     (λ c. search needs)
     (λ c. search (needs, stack-kept))
-    (λ c. search (needs, all-appended)))
+    returns)

@@ -23,6 +23,9 @@ loop-holds c = (omega arith, search needs, search (needs, none-passed))
 loop-again : tie.Need-loop-again Inv-loop μ-loop
 loop-again c = (omega arith, search needs, search (needs, appended-then))
 
+returns : tie.Need-returns Inv-loop μ-loop
+returns c = search (needs, all-passed)
+
 pub append-entries-spec : {M : Type 1} → statement M
 append-entries-spec =
     tie.close
@@ -37,4 +40,4 @@ append-entries-spec =
     loop-again
     (λ c. search needs)
     (λ c. search (needs, stack-kept))
-    (λ c. search (needs, all-passed)))
+    returns)
