@@ -1,72 +1,18 @@
--- The codes appended one after the other.
-use Prim.Native.Nat.{ℕ, zero, suc, _+_, _≤_, _<_}
-use native.Mathlib.Omega.{arith}
+-- The codes appended one after the other: those before `at` are built, those from it on are to come.
+use Prim.Native.Nat.{ℕ, suc, _+_, _≤_, _<_}
 use native.Mathlib.Numerals.{add-one}
-use mathlib.Core.Path.{_≡_, refl, subst, subst₂, sym, _∙_}
-use mathlib.Core.List.{List, [], _∷_, _++_}
+use mathlib.Core.Path.{subst, subst₂, sym}
+use mathlib.Core.List.{List, [], _∷_}
 use lib.ListN.{length, getD, take, drop}
-use lib.Seq.{take-suc, drop-cons, take-all, drop-nil}
-use Rattle.pktree.specs.Elements.{empty}
-use Rattle.pktree.proofs.Alignment.{pow-pos}
+use lib.Seq.{take-suc, drop-cons, take-all}
 use Rattle.measures.specs.declared.sizes.Sizes.{Sizes}
 use Rattle.measures.specs.declared.sizes.Layout.{Layout}
-use Rattle.filling.specs.declared.build.Build.{Build}
-use Rattle.filling.specs.Build.{Building, AppendDue, AppendDone}
-use Rattle.filling.specs.Fill.{emptyBuild, Appended, FillAt}
-use Rattle.filling.proofs.PackTurns.{beside-itself, beside-then}
+use Rattle.building.specs.declared.build.Build.{Build}
+use Rattle.building.specs.Build.{AppendDue, AppendDone}
+use Rattle.building.specs.Finish.{Appended}
+use Rattle.building.proofs.Appended.{append-due, one-appended}
+use Rattle.filling.proofs.JudgedCodes.{none-behind}
 
--- nothing is built yet
-building-first : {sizes : Sizes} {layout : Layout} {words stack codes : List ℕ} {build : Build} → build ≡ emptyBuild → FillAt sizes layout words stack codes
-    → Building sizes layout words stack build [] codes
-building-first {sizes} e due =
-    rw e (record {
-      ground = due .ground;
-      to = 0;
-      grown = record {
-        placed = empty;
-        many = refl;
-        on-stack = refl;
-        stands = tt;
-        fresh-is = refl;
-        numbered = λ s. refl;
-        opened = record { arranged = omega arith; reach = tt; others = λ j q l ne. omega (arith, due .ground .valid .panel .k-from) };
-        codes-are = refl;
-      };
-      to-inside = omega arith;
-      last-inside = pow-pos (sizes .order);
-      last-below = omega arith;
-      ascending = due .on-panel .ascending;
-      on-panel = due .on-panel .on-panel;
-      room = omega (arith, due .room);
-    })
-
-pub appended-itself : {sizes : Sizes} {layout : Layout} {words stack done later : List ℕ} {build : Build} → Building sizes layout words stack build done later
-    → Appended sizes layout words words stack build done later
-appended-itself {layout = layout} {words = words} b = record { beside = beside-itself layout words; building = b }
-
-pub appended-then : {sizes : Sizes} {layout : Layout} {words₀ words words′ stack stack′ done later done′ later′ : List ℕ} {build r : Build}
-    → Appended sizes layout words₀ words stack build done later → Appended sizes layout words words′ stack′ r done′ later′ → Appended sizes layout words₀ words′ stack′ r done′ later′
-appended-then a b = record { beside = beside-then (a .beside) (b .beside); building = b .building }
-
-pub none-appended : {sizes : Sizes} {layout : Layout} {words stack codes : List ℕ} {build : Build} → build ≡ emptyBuild → FillAt sizes layout words stack codes
-    → Appended sizes layout words words stack build [] codes
-none-appended e due = appended-itself (building-first e due)
-
--- the next code is the first of those to come
-pub append-due : {sizes : Sizes} {layout : Layout} {words₀ words stack done later : List ℕ} {build : Build} {code : ℕ} → Appended sizes layout words₀ words stack build done (code ∷ later)
-    → AppendDue sizes layout words stack build code
-append-due {done = done} {later = later} a = record { done = done; later = later; building = a .building }
-
-pub one-appended : {sizes : Sizes} {layout : Layout} {words₀ words stack words′ stack′ done later : List ℕ} {build r : Build} {code : ℕ}
-    → Appended sizes layout words₀ words stack build done (code ∷ later) → AppendDone sizes layout build code words words′ stack stack′ r
-    → Appended sizes layout words₀ words′ stack′ r (done ++ (code ∷ [])) later
-one-appended {done = done} {later = later} a d = appended-then a (record { beside = d .beside; building = d .right done later (a .building) })
-
-pub stack-kept : {sizes : Sizes} {layout : Layout} {words₀ words stack₀ stack codes done later : List ℕ} {build : Build} → FillAt sizes layout words₀ stack₀ codes
-    → Appended sizes layout words₀ words stack build done later → length stack ≡ length stack₀
-stack-kept due a = a .building .ground .stack-long ∙ sym (due .ground .stack-long)
-
--- the codes before `at` and those from it on
 module _ {sizes : Sizes} {layout : Layout} {words₀ words stack : List ℕ} {build : Build} (codes : List ℕ) (at : ℕ) (below : at < length codes)
     (a : Appended sizes layout words₀ words stack build (take at codes) (drop at codes)) where
   next : Appended sizes layout words₀ words stack build (take at codes) (getD codes at 0 ∷ drop (suc at) codes)
@@ -79,11 +25,6 @@ module _ {sizes : Sizes} {layout : Layout} {words₀ words stack : List ℕ} {bu
       → Appended sizes layout words₀ words′ stack′ r (take (at + 1) codes) (drop (at + 1) codes)
   next-appended {words′} {stack′} {r} d =
       rw add-one (subst (λ (l : List ℕ). Appended sizes layout words₀ words′ stack′ r l (drop (suc at) codes)) (sym (take-suc codes at 0 below)) (one-appended next d))
-
-none-behind : (n : ℕ) (l : List ℕ) → length l ≤ n → drop n l ≡ []
-none-behind n [] h = drop-nil n
-none-behind zero (x ∷ l) h = absurd (omega arith)
-none-behind (suc n) (x ∷ l) h = none-behind n l (omega arith)
 
 pub all-appended : {sizes : Sizes} {layout : Layout} {words₀ words stack : List ℕ} {build : Build} (codes : List ℕ) (at : ℕ) → length codes ≤ at
     → Appended sizes layout words₀ words stack build (take at codes) (drop at codes) → Appended sizes layout words₀ words stack build codes []

@@ -15,7 +15,7 @@ use Rattle.measures.proofs.Decides.{decided-true, decided-false}
 use Rattle.promises.specs.Answer.{accepted, refused}
 use Rattle.promises.specs.Effect.{effect, passed, stopped}
 use Rattle.promises.specs.Calls.{Fills}
-use Rattle.filling.specs.Fill.{FillDue, Replaced}
+use Rattle.building.specs.Finish.{BuildDue, Replaced}
 
 -- `first`: all codes are on the panel; `wide`: N, as the code compares it
 module _ (before codes : List ℕ) (sizes : Sizes) (first : Bool) (is : sizes ≡ sizesOf before) (panel : Decides first (Every (λ c. c < 4 ^ sizes .order) codes)) where
@@ -41,7 +41,7 @@ module _ (before codes : List ℕ) (sizes : Sizes) (first : Bool) (is : sizes �
       refused-unordered e = passed inside-here (passed (omega (arith, most-here)) (stopped (decided-false (not-true last e) order) (record { is = refl; same = refl })))
 
       module _ (up : not last ≡ false) where
-        pub fill-due : UsableStore before → FillDue before sizes codes
+        pub fill-due : UsableStore before → BuildDue before sizes codes
         fill-due usable = record { usable = usable; sizes-are = is; on-panel = record { ascending = decided-true (not-false last up) order; on-panel = inside }; room = omega (arith, most-is) }
 
         pub codes-held : (after : List ℕ) → Replaced before after codes → Fills before codes (effect (accepted 0 0) before after)

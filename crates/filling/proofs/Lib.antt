@@ -1,15 +1,3 @@
-pub mod Growth
-pub mod OpenElements
-pub mod RestFreed
-pub mod LaidBlocks
-pub mod StackWords
-pub mod SlotNumbers
-pub mod Packing
-pub mod PackTurns
-pub mod Appending
-pub mod AppendAll
-pub mod RootLaid
-pub mod Finishing
-pub mod Filled
 pub mod JudgedCodes
 pub mod Ends
+pub mod AppendAll

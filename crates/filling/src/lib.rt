@@ -1,6 +1,3 @@
-// Filling: a register is built from strictly ascending codes, from the bottom up. The elements that no complete block has taken yet lie on a
-// stack; a block is packed into the next slot as soon as a code beyond it comes.
-pub mod blocks;
-pub mod build;
+// Filling: a register is replaced by the pixels of strictly ascending codes, which are judged before a word is written.
 pub mod codes;
 pub mod fill;

@@ -14,12 +14,12 @@ use Rattle.measures.specs.declared.sizes.Layout.{Layout}
 use Rattle.measures.specs.Sizes.{ValidSizes}
 use Rattle.measures.specs.Layout.{LaidOut}
 use Rattle.measures.proofs.Usable.{sizes-valid}
-use Rattle.filling.specs.declared.build.Build.{Build}
-use Rattle.filling.specs.Growing.{stackWords}
-use Rattle.filling.specs.Build.{AppendDue, AppendDone}
-use Rattle.filling.specs.Fill.{emptyBuild, Appended}
-use Rattle.filling.proofs.AppendAll.{appended-itself, none-appended, append-due, one-appended}
-use Rattle.filling.proofs.Filled.{fill-at}
+use Rattle.building.specs.declared.build.Build.{Build}
+use Rattle.building.specs.Growing.{stackWords}
+use Rattle.building.specs.Build.{emptyBuild, AppendDue, AppendDone}
+use Rattle.building.specs.Finish.{Appended}
+use Rattle.building.proofs.Appended.{appended-itself, none-appended, append-due, one-appended}
+use Rattle.building.proofs.Filled.{fill-at}
 use Rattle.image.specs.Parts.{fourAt, entryAt, entriesAt}
 use Rattle.loading.specs.Filled.{pixelsTo, pixelsFrom, pixelsGiven, EntryDue, EntriesAt, ReplaceDue}
 

@@ -11,7 +11,7 @@ use Rattle.measures.specs.Decides.{Decides}
 use Rattle.measures.specs.Sizes.{panelOf, sizesOf, UsableStore}
 use Rattle.store.specs.Sound.{Holds}
 use Rattle.measures.proofs.Decides.{decided-true, decided-false}
-use Rattle.filling.specs.Fill.{Replaced}
+use Rattle.building.specs.Finish.{Replaced}
 use Rattle.image.specs.Parts.{pixelNumber, codesPart, levelsPart}
 use Rattle.image.specs.Judged.{WellFormed, FitsRegister, ImageOfSome}
 use Rattle.reader.specs.Reading.{CanRead}

@@ -8,9 +8,9 @@ use Rattle.pktree.specs.Entries.{pixelEntries}
 use Rattle.measures.specs.declared.sizes.Sizes.{Sizes}
 use Rattle.measures.specs.declared.sizes.Layout.{Layout}
 use Rattle.measures.specs.Sizes.{panelOf, sizesOf, UsableStore}
-use Rattle.filling.specs.declared.build.Build.{Build}
-use Rattle.filling.specs.Build.{Building}
-use Rattle.filling.specs.Fill.{FillAt}
+use Rattle.building.specs.declared.build.Build.{Build}
+use Rattle.building.specs.Build.{Building}
+use Rattle.building.specs.Finish.{BuildAt}
 use Rattle.image.specs.Parts.{entriesAt}
 
 -- the codes of the pixels among the first n entries
@@ -39,7 +39,7 @@ pub record EntryDue (sizes : Sizes) (layout : Layout) (words stack : List ℕ) (
 
 -- no pixel is built yet
 pub record EntriesAt (sizes : Sizes) (layout : Layout) (words stack codes levels : List ℕ) : Type 0 where
-  pub begun : FillAt sizes layout words stack (pixelsGiven codes levels)
+  pub begun : BuildAt sizes layout words stack (pixelsGiven codes levels)
   pub codes-long : length codes ≡ 4 * length levels
 
 -- whatever the words from 4 on are

@@ -2,8 +2,9 @@
 use Prim.Native.Nat.{_-_}
 use lib.ListN.{length, take, drop}
 use borrow.Author.Needs.{needs}
-use Rattle.filling.specs.Fill.{Appended}
-use Rattle.filling.proofs.AppendAll.{none-appended, next-due, next-appended, all-appended, stack-kept}
+use Rattle.building.specs.Finish.{Appended}
+use Rattle.building.proofs.Appended.{none-appended, stack-kept}
+use Rattle.filling.proofs.AppendAll.{next-due, next-appended, all-appended}
 use Rattle.filling.proofs.fill.append_all.Statement.{statement}
 use Rattle.filling.proofs.fill.append_all.Tie as tie
 

@@ -1,6 +1,6 @@
 -- `filling::fill::fill_codes` meets its contract: the sizes are those of the store, and the stack is long enough.
 use borrow.Author.Needs.{needs}
-use Rattle.filling.proofs.Filled.{fill-valid, fill-at}
+use Rattle.building.proofs.Filled.{fill-valid, fill-at}
 use Rattle.filling.proofs.fill.fill_codes.Statement.{statement}
 use Rattle.filling.proofs.fill.fill_codes.Tie as tie
 

@@ -3,8 +3,8 @@ use Prim.Native.Nat.{_-_, _^_, _≤_, _<_}
 use native.Mathlib.Omega.{arith}
 use lib.ListN.{length}
 use borrow.Author.Needs.{needs}
-use Rattle.filling.specs.Fill.{Appended}
-use Rattle.filling.proofs.AppendAll.{appended-then, stack-kept}
+use Rattle.building.specs.Finish.{Appended}
+use Rattle.building.proofs.Appended.{appended-then, stack-kept}
 use Rattle.loading.specs.Filled.{pixelsTo, pixelsFrom}
 use Rattle.loading.proofs.EntryPixels.{none-passed, entry-due, all-passed}
 use Rattle.loading.proofs.fill.append_entries.Statement.{statement}

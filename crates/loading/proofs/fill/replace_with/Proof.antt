@@ -1,6 +1,6 @@
 -- `loading::fill::replace_with` meets its contract: the pixels are appended, then the root is laid.
 use borrow.Author.Needs.{needs}
-use Rattle.filling.proofs.Filled.{finish-due, filled}
+use Rattle.building.proofs.Filled.{finish-due, filled}
 use Rattle.loading.proofs.fill.replace_with.Statement.{statement}
 use Rattle.loading.proofs.fill.replace_with.Tie as tie
 

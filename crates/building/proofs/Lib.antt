@@ -1,0 +1,13 @@
+pub mod Growth
+pub mod OpenElements
+pub mod RestFreed
+pub mod LaidBlocks
+pub mod StackWords
+pub mod SlotNumbers
+pub mod Packing
+pub mod PackTurns
+pub mod Appending
+pub mod Appended
+pub mod RootLaid
+pub mod Finishing
+pub mod Filled

@@ -1,0 +1,16 @@
+-- `building::blocks::lay_part` meets its contract: the elements copied to their place, and the header.
+use borrow.Author.Needs.{needs}
+use Rattle.building.proofs.LaidBlocks.{part-laid}
+use Rattle.building.proofs.blocks.lay_part.Statement.{statement}
+use Rattle.building.proofs.blocks.lay_part.Tie as tie
+
+pub lay-part-spec : {M : Type 1} → statement M
+lay-part-spec =
+    tie.close
+    (tie.spec
+    (λ c. search needs)
+    (λ c κs. search needs)
+    (λ c. search needs)
+    (λ c κs. search needs)
+    (λ c. search needs)
+    (λ c. search (needs, part-laid)))

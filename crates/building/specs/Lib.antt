@@ -1,0 +1,4 @@
+pub mod Growing
+pub mod Blocks
+pub mod Build
+pub mod Finish

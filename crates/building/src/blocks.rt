@@ -1,0 +1,54 @@
+ghost use Prim.Native.Nat.{_*_, _≤_};
+ghost use lib.ListN.{length, take};
+ghost use Rattle.measures.specs.Layout.{mostElements};
+ghost use Rattle.measures.specs.Slot.{elementIndex};
+ghost use Rattle.rewrite.specs.Rewrite.{SlotNow};
+ghost use Rattle.building.specs.Blocks.{LayDue, BlockLaid, FreeRestDue, RestFree};
+use measures::sizes::Layout;
+use measures::slots::SLOT_HEAD;
+use measures::slots::offset;
+use measures::words::FIRST_FREE;
+use store::elements::copy_words;
+use store::elements::write_header;
+use store::free::NO_SLOT;
+use store::free::release;
+
+// The elements of a slot, and the header that says how many they are.
+fn lay_part(part: &mut [u32], level: u32, code: u32, source: &[u32], count: usize)
+    requires { ⌜ (elementIndex count ≤ length (now part)) × ((2 * count ≤ length (now source)) × (count ≤ mostElements)) ⌝ }
+    ensures { λ _. ⌜ SlotNow (now (part .exit)) level code (take (2 * count) (now (source .entry))) ⌝ }
+{
+    copy_words(part, SLOT_HEAD, source, 2 * count);
+    write_header(part, level, code, count as u32);
+}
+
+// A block with its elements, the first of the source, written to a slot.
+pub fn lay_block(
+    store: &mut [u32],
+    layout: Layout,
+    slot: usize,
+    level: u32,
+    code: u32,
+    source: &[u32],
+    count: usize,
+)
+    requires { ⌜ LayDue layout (now store) slot (now source) count ⌝ }
+    ensures { λ _. ⌜ BlockLaid (layout .width) slot level code (take (2 * count) (now (source .entry))) (now (store .entry)) (now (store .exit)) ⌝ }
+{
+    let at = offset(layout, slot);
+    let width = layout.width;
+    lay_part(&mut store[at..at + width], level, code, source, count);
+}
+
+// The slots from `first` on, which is not the root's, are put into the chain.
+pub fn free_rest(store: &mut [u32], layout: Layout, first: usize)
+    requires { ⌜ FreeRestDue layout (now store) first ⌝ }
+    ensures { λ _. ⌜ RestFree layout first (now (store .entry)) (now (store .exit)) ⌝ }
+{
+    store[FIRST_FREE] = NO_SLOT;
+    let mut slot = layout.slots;
+    while first < slot {
+        slot -= 1;
+        release(store, layout, slot);
+    }
+}

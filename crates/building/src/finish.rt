@@ -1,0 +1,28 @@
+ghost use Rattle.building.specs.Finish.{FinishDue, Finished};
+use crate::blocks::free_rest;
+use crate::blocks::lay_block;
+use crate::build::Build;
+use crate::build::pack_complete;
+use measures::sizes::Layout;
+use measures::sizes::Sizes;
+use measures::words::PIXELS;
+
+// All codes are appended: what is left on the stack are the root's elements.
+pub fn finish(
+    store: &mut [u32],
+    sizes: Sizes,
+    layout: Layout,
+    stack: &mut [u32],
+    build: Build,
+    number: u32,
+)
+    requires { ⌜ FinishDue sizes layout (now store) (now stack) build number ⌝ }
+    ensures { λ _. ⌜ Finished sizes layout build number (now (store .entry)) (now (store .exit)) (now (stack .entry)) ⌝ }
+{
+    let root = pack_complete(store, sizes, layout, stack, build, sizes.order);
+    let count = root.count;
+    let fresh = root.fresh;
+    lay_block(store, layout, 0, sizes.order, 0, stack, count);
+    free_rest(store, layout, fresh);
+    store[PIXELS] = number;
+}

@@ -1,4 +1,0 @@
-pub mod Growing
-pub mod Blocks
-pub mod Build
-pub mod Fill
