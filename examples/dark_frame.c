@@ -1,6 +1,7 @@
 /*
  * Two laboratories mask the hot pixels of the same dark frame, one row by row, the other from the last pixel back and with a pixel
- * that recovers. Each saves its register to a file; the two files are the same, byte for byte.
+ * that recovers. Each saves its register to a file; the two files are the same, byte for byte. A third register is filled at once, from a
+ * pass over the frame in rising code, and has the same image.
  *
  * Usage: dark_frame FILE1 FILE2 (both are written). It is C99, and C++ as it stands.
  */
@@ -141,6 +142,25 @@ static int same_bytes(const char *one, const char *other)
     return read_from(other, second, sizeof second) == length && memcmp(first, second, length) == 0;
 }
 
+/* Code after code, so that the codes ascend; what the register held before is gone. */
+static int fill_at_once(const char *path, uint32_t *store, size_t words)
+{
+    uint32_t codes[SIDE * SIDE], code;
+    uint8_t image[1024], file[1024];
+    size_t number = 0, length = read_from(path, file, sizeof file);
+    pk_answer saved;
+    int same;
+    for (code = 0; code < SIDE * SIDE; code++)
+        if (dark_frame[coordinate(code >> 1)][coordinate(code)] > HOT)
+            codes[number++] = code;
+    must("fill", pk_fill(store, words, codes, number));
+    saved = pk_save(store, words, image, sizeof image);
+    must("save", saved.refusal);
+    same = saved.first == length && memcmp(image, file, length) == 0;
+    printf("filled at once: %u pixels, the image is %s\n", (unsigned)number, same ? "the same" : "different");
+    return same;
+}
+
 int main(int count, char **arguments)
 {
     size_t words = store_words();
@@ -162,6 +182,7 @@ int main(int count, char **arguments)
     load_back(arguments[1], third_store, words);
     same = same_bytes(arguments[1], arguments[2]);
     printf("the two files are %s\n", same ? "the same" : "different");
+    same = fill_at_once(arguments[1], third_store, words) && same;
     printf("marking a marked pixel is refused with %u\n", (unsigned)pk_mark(third_store, words, 0, 0));
     return same ? 0 : 1;
 }

@@ -5,7 +5,7 @@ import os
 import sys
 
 sys.path.insert(0, os.path.join(os.path.dirname(os.path.abspath(__file__)), "..", "python"))
-from pkreg import LibraryMissing, Refusal, Register, pixel_of  # noqa: E402
+from pkreg import LibraryMissing, Refusal, Register, code_of, pixel_of  # noqa: E402
 
 ORDER, K, MOST, HOT = 3, 3, 16, 100
 
@@ -74,11 +74,15 @@ def main(first, second):
     print(f"loaded back: {loaded.count(0, 0, last, last).found} pixels, sound {int(loaded.check())}")
     same = read_from(first) == read_from(second)
     print(f"the two files are {'the same' if same else 'different'}")
+    codes = sorted(code_of(x, y) for x, y in hot_pixels())
+    loaded.fill(codes)
+    filled = loaded.save() == read_from(first)
+    print(f"filled at once: {len(codes)} pixels, the image is {'the same' if filled else 'different'}")
     try:
         loaded.mark(0, 0)
     except Refusal as refusal:
         print(f"marking a marked pixel is refused with {refusal.number}")
-    return 0 if same else 1
+    return 0 if same and filled else 1
 
 
 if __name__ == "__main__":

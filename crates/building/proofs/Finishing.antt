@@ -18,15 +18,14 @@ use Rattle.measures.specs.Slot.{slotPart, elementIndex}
 use Rattle.measures.proofs.SlotWrites.{take-less, HeadWritten, head-word-set}
 use Rattle.measures.proofs.Usable.{sizes-kept, usable-kept}
 use Rattle.store.specs.Placed.{Placed, slotsOf}
-use Rattle.store.specs.FreeSlots.{FreeSlots}
-use Rattle.store.specs.Emptied.{numbersFrom}
+use Rattle.store.specs.FreeSlots.{FreeSlots, numbersFrom, FreeFrom}
 use Rattle.store.proofs.Standing.{SlotSays, Stands, frame}
 use Rattle.store.proofs.FreeChains.{every-map, every-of-all, free-kept, absent}
-use Rattle.store.proofs.AllFree.{numbers-before}
+use Rattle.store.proofs.FreedSlots.{numbers-before}
 use Rattle.store.proofs.SoundView.{slots-suffice}
 use Rattle.rewrite.proofs.SlotNows.{now-says}
 use Rattle.building.specs.declared.build.Build.{Build}
-use Rattle.building.specs.Blocks.{LayDue, BlockLaid, FreeRestDue, RestFree}
+use Rattle.building.specs.Blocks.{LayDue, BlockLaid}
 use Rattle.building.specs.Build.{PackCompleteAt, PackCompleteDue, CompletePacked, PackCompleteDone}
 use Rattle.building.specs.Finish.{Replaced, FinishAt, FinishDue, Finished}
 use Rattle.building.proofs.Growth.{root-right, right-is-small}
@@ -37,8 +36,8 @@ use Rattle.building.proofs.RootLaid.{RootLaid, holds-root}
 
 pub length-kept : {sizes : Sizes} {layout : Layout} {words words₁ words₂ words₃ stack stack₁ elements : List ℕ} {build r : Build} {limit slot level code first : ℕ} (number : ℕ)
     → PackCompleteDone sizes layout build limit words words₁ stack stack₁ r → BlockLaid (layout .width) slot level code elements words₁ words₂
-    → RestFree layout first words₂ words₃ → length (set words₃ pixelsIndex number) ≡ length words
-length-kept {words₃ = words₃} number packed laid free = length-set words₃ pixelsIndex number ∙ free .freed .long ∙ laid .only .long ∙ packed .beside .long
+    → FreeFrom layout first words₂ words₃ → length (set words₃ pixelsIndex number) ≡ length words
+length-kept {words₃ = words₃} number packed laid free = length-set words₃ pixelsIndex number ∙ free .long ∙ laid .only .long ∙ packed .beside .long
 
 module _ {sizes : Sizes} {layout : Layout} {words stack : List ℕ} {build : Build} {number : ℕ} {codes : List ℕ} (due : FinishAt sizes layout words stack build number codes) where
   abbrev m : ℕ
@@ -77,6 +76,9 @@ module _ {sizes : Sizes} {layout : Layout} {words stack : List ℕ} {build : Bui
     fits : LayoutFits layout words₁
     fits = record { within = due .building .ground .fits .within; lies = rw (packed .beside .long) (due .building .ground .fits .lies) }
 
+    fresh-to : r .fresh ≤ layout .slots
+    fresh-to = omega (arith, fewer, after .grown .fresh-is)
+
     lay-root : LayDue layout words₁ 0 stack₁ (r .count)
     lay-root = record {
       fits = fits;
@@ -87,14 +89,10 @@ module _ {sizes : Sizes} {layout : Layout} {words stack : List ℕ} {build : Bui
     }
 
     module _ {words₂ : List ℕ} (laid : BlockLaid (layout .width) 0 (sizes .order) 0 (take (2 * r .count) stack₁) words₁ words₂) where
-      free-after : FreeRestDue layout words₂ (r .fresh)
-      free-after = record {
-        fits = record { within = fits .within; lies = rw (laid .only .long) (fits .lies) };
-        after-root = omega (arith, after .grown .fresh-is);
-        first-to = omega (arith, fewer, after .grown .fresh-is);
-      }
+      fits-still : LayoutFits layout words₂
+      fits-still = record { within = fits .within; lies = rw (laid .only .long) (fits .lies) }
 
-      module _ {words₃ : List ℕ} (free : RestFree layout (r .fresh) words₂ words₃) where
+      module _ {words₃ : List ℕ} (free : FreeFrom layout (r .fresh) words₂ words₃) where
         abbrev words₄ : List ℕ
         words₄ = set words₃ pixelsIndex number
 
@@ -106,7 +104,7 @@ module _ {sizes : Sizes} {layout : Layout} {words stack : List ℕ} {build : Bui
 
         head : take 4 words₄ ≡ take 4 words
         head =
-            take-set-le 4 words₃ pixelsIndex number (omega arith) ∙ take-less 4 firstFreeIndex words₂ words₃ (omega arith) (free .freed .head)
+            take-set-le 4 words₃ pixelsIndex number (omega arith) ∙ take-less 4 firstFreeIndex words₂ words₃ (omega arith) (free .head)
             ∙ take-less 4 headWords words₁ words₂ (omega arith) (laid .only .head) ∙ take-less 4 headWords words words₁ (omega arith) (packed .beside .head)
 
         kept : (s : ℕ) → s < r .fresh → slotPart (layout .width) words₄ s ≡ slotPart (layout .width) words₂ s
@@ -127,7 +125,7 @@ module _ {sizes : Sizes} {layout : Layout} {words stack : List ℕ} {build : Bui
         chain =
             subst (λ (n : ℕ). FreeSlots (layout .width) words₄ (numbersFrom n (layout .slots - n))) (after .grown .fresh-is)
             (free-kept (layout .width) words₃ words₄ (numbersFrom (r .fresh) (layout .slots - r .fresh)) (getD-set-other words₃ pixelsIndex firstFreeIndex number 0 (λ z. omega arith))
-            (every-of-all _ (numbersFrom (r .fresh) (layout .slots - r .fresh)) (λ s. sym (counting .slots s))) (free .freed .chain))
+            (every-of-all _ (numbersFrom (r .fresh) (layout .slots - r .fresh)) (λ s. sym (counting .slots s))) (free .chain))
 
         laid-root : RootLaid sizes layout words₄ codes
         laid-root = record {
@@ -156,7 +154,7 @@ module _ {sizes : Sizes} {layout : Layout} {words stack : List ℕ} {build : Bui
               sizes-same = sizes-kept words words₄ head;
               head = head;
               past = subst (λ (z : Layout). drop (storeEnd z) words₄ ≡ drop (storeEnd z) words) l₀
-                  (counting .past (layout .slots) ∙ free .freed .past ∙ laid .only .past (layout .slots) (omega (arith, fewer)) ∙ packed .beside .past);
+                  (counting .past (layout .slots) ∙ free .past ∙ laid .only .past (layout .slots) (omega (arith, fewer)) ∙ packed .beside .past);
               long = long;
             }
 
@@ -166,15 +164,18 @@ module _ {sizes : Sizes} {layout : Layout} {words stack : List ℕ} {build : Bui
   pack-below-due limit to = record { to = 4 ^ sizes .order; codes = due .codes; due = pack-at (due .due) limit to }
 
   module _ {words₁ stack₁ : List ℕ} {r : Build} (packed : PackCompleteDone sizes layout build (sizes .order) words words₁ stack stack₁ r) where
+    pub fresh-below : r .fresh ≤ layout .slots
+    fresh-below = fresh-to (due .due) packed
+
     pub lay-root-due : LayDue layout words₁ 0 stack₁ (r .count)
     lay-root-due = lay-root (due .due) packed
 
     module _ {words₂ : List ℕ} (laid : BlockLaid (layout .width) 0 (sizes .order) 0 (take (2 * r .count) stack₁) words₁ words₂) where
-      pub free-rest-due : FreeRestDue layout words₂ (r .fresh)
-      free-rest-due = free-after (due .due) packed laid
+      pub still-fits : LayoutFits layout words₂
+      still-fits = fits-still (due .due) packed laid
 
 pub finished : {sizes : Sizes} {layout : Layout} {words words₁ words₂ words₃ stack stack₁ : List ℕ} {build r : Build} {number : ℕ}
     → PackCompleteDone sizes layout build (sizes .order) words words₁ stack stack₁ r
-    → BlockLaid (layout .width) 0 (sizes .order) 0 (take (2 * r .count) stack₁) words₁ words₂ → RestFree layout (r .fresh) words₂ words₃
+    → BlockLaid (layout .width) 0 (sizes .order) 0 (take (2 * r .count) stack₁) words₁ words₂ → FreeFrom layout (r .fresh) words₂ words₃
     → Finished sizes layout build number words (set words₃ pixelsIndex number) stack
 finished packed laid free = record { right = λ codes due. replaced due packed laid free }

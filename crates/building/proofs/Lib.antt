@@ -1,6 +1,5 @@
 pub mod Growth
 pub mod OpenElements
-pub mod RestFreed
 pub mod LaidBlocks
 pub mod StackWords
 pub mod SlotNumbers

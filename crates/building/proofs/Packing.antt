@@ -21,8 +21,7 @@ use Rattle.measures.specs.Slot.{slotPart, elementIndex}
 use Rattle.measures.proofs.SlotWrites.{drop-take}
 use Rattle.store.specs.Element.{blockTag}
 use Rattle.store.specs.Placed.{Placed, slotsOf}
-use Rattle.store.specs.FreeSlots.{occurrences}
-use Rattle.store.specs.Emptied.{numbersFrom}
+use Rattle.store.specs.FreeSlots.{occurrences, numbersFrom}
 use Rattle.store.proofs.Standing.{elementWords, SlotSays, Stands, frame}
 use Rattle.store.proofs.PlacedJoin.{slots-join, words-join, length-element-words, stands-join, stands-parts}
 use Rattle.store.proofs.FreeChains.{every-map, occurrences-join, absent}

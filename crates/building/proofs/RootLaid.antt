@@ -16,8 +16,7 @@ use Rattle.measures.specs.Sizes.{panelOf, slotCount, slotWidth, sizesOf, Usable
 use Rattle.measures.specs.Layout.{layoutOf}
 use Rattle.measures.specs.Slot.{slotPart}
 use Rattle.store.specs.Placed.{Placed, slotsOf}
-use Rattle.store.specs.FreeSlots.{FreeSlots, occurrences}
-use Rattle.store.specs.Emptied.{numbersFrom}
+use Rattle.store.specs.FreeSlots.{FreeSlots, occurrences, numbersFrom}
 use Rattle.store.specs.Sound.{Holds}
 use Rattle.store.proofs.Standing.{SlotSays, Stands, complete-slot, depth-below-level}
 use Rattle.building.proofs.SlotNumbers.{shared-out}

@@ -5,11 +5,10 @@ use native.Mathlib.Decide.{decLt}
 use mathlib.Core.Path.{_≡_, refl, ap, sym, _∙_}
 use mathlib.Core.List.{List, [], _∷_, _++_, append-nil}
 use Rattle.pktree.specs.Lists.{Every}
-use Rattle.store.specs.FreeSlots.{occurrences}
-use Rattle.store.specs.Emptied.{numbersFrom}
+use Rattle.store.specs.FreeSlots.{occurrences, numbersFrom}
 use Rattle.store.specs.Sound.{SlotsShared}
 use Rattle.store.proofs.FreeChains.{occurrences-join, occurrences-same, occurrences-other}
-use Rattle.store.proofs.AllFree.{numbers-once}
+use Rattle.store.proofs.FreedSlots.{numbers-once}
 
 numbers-join : (first a b : ℕ) → numbersFrom first (a + b) ≡ numbersFrom first a ++ numbersFrom (first + a) b
 numbers-join first zero b =

@@ -19,8 +19,7 @@ use Rattle.measures.specs.Layout.{LayoutFits, LaidOut, storeEnd}
 use Rattle.measures.specs.Slot.{elementIndex}
 use Rattle.store.specs.Element.{blockTag}
 use Rattle.store.specs.Placed.{Placed, slotsOf}
-use Rattle.store.specs.FreeSlots.{occurrences}
-use Rattle.store.specs.Emptied.{numbersFrom}
+use Rattle.store.specs.FreeSlots.{occurrences, numbersFrom}
 use Rattle.store.proofs.Standing.{elementWords, Stands}
 use Rattle.building.specs.declared.build.Build.{Build}
 use Rattle.building.specs.Growing.{Open, mostOpen, stackWords}

@@ -3,15 +3,12 @@ ghost use lib.ListN.{length, take};
 ghost use Rattle.measures.specs.Layout.{mostElements};
 ghost use Rattle.measures.specs.Slot.{elementIndex};
 ghost use Rattle.rewrite.specs.Rewrite.{SlotNow};
-ghost use Rattle.building.specs.Blocks.{LayDue, BlockLaid, FreeRestDue, RestFree};
+ghost use Rattle.building.specs.Blocks.{LayDue, BlockLaid};
 use measures::sizes::Layout;
 use measures::slots::SLOT_HEAD;
 use measures::slots::offset;
-use measures::words::FIRST_FREE;
 use store::elements::copy_words;
 use store::elements::write_header;
-use store::free::NO_SLOT;
-use store::free::release;
 
 // The elements of a slot, and the header that says how many they are.
 fn lay_part(part: &mut [u32], level: u32, code: u32, source: &[u32], count: usize)
@@ -38,17 +35,4 @@ pub fn lay_block(
     let at = offset(layout, slot);
     let width = layout.width;
     lay_part(&mut store[at..at + width], level, code, source, count);
-}
-
-// The slots from `first` on, which is not the root's, are put into the chain.
-pub fn free_rest(store: &mut [u32], layout: Layout, first: usize)
-    requires { ⌜ FreeRestDue layout (now store) first ⌝ }
-    ensures { λ _. ⌜ RestFree layout first (now (store .entry)) (now (store .exit)) ⌝ }
-{
-    store[FIRST_FREE] = NO_SLOT;
-    let mut slot = layout.slots;
-    while first < slot {
-        slot -= 1;
-        release(store, layout, slot);
-    }
 }

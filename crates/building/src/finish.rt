@@ -1,11 +1,11 @@
 ghost use Rattle.building.specs.Finish.{FinishDue, Finished};
-use crate::blocks::free_rest;
 use crate::blocks::lay_block;
 use crate::build::Build;
 use crate::build::pack_complete;
 use measures::sizes::Layout;
 use measures::sizes::Sizes;
 use measures::words::PIXELS;
+use store::free::free_from;
 
 // All codes are appended: what is left on the stack are the root's elements.
 pub fn finish(
@@ -23,6 +23,6 @@ pub fn finish(
     let count = root.count;
     let fresh = root.fresh;
     lay_block(store, layout, 0, sizes.order, 0, stack, count);
-    free_rest(store, layout, fresh);
+    free_from(store, layout, fresh);
     store[PIXELS] = number;
 }

@@ -7,9 +7,7 @@ use lib.ListN.{drop}
 use lib.Seq.{drop-drop}
 use Rattle.measures.specs.declared.sizes.Sizes.{Sizes}
 use Rattle.measures.specs.Sizes.{storeWords, WroteSizes}
-use Rattle.store.specs.Emptied.{Emptied}
-use Rattle.measures.proofs.SlotWrites.{take-less}
-use Rattle.measures.proofs.Usable.{sizes-kept}
+use Rattle.building.specs.Finish.{BuildDue, Replaced}
 use Rattle.promises.specs.Answer.{accepted}
 use Rattle.promises.specs.Effect.{effect}
 use Rattle.promises.specs.Change.{Becomes}
@@ -20,7 +18,11 @@ past-later a b x y h e =
     let n : b ≡ a + (b - a) = omega arith in
     rw n (sym (drop-drop (b - a) a x) ∙ ap (drop (b - a)) e ∙ drop-drop (b - a) a y)
 
-pub made-empty : (sizes : Sizes) (before sized after : List ℕ) → WroteSizes sizes before sized → Emptied sized after → Becomes sizes [] (effect (accepted 0 0) before after)
+-- no codes are a set that every register can hold
+pub none-due : {sizes : Sizes} {before sized : List ℕ} → WroteSizes sizes before sized → BuildDue sized sizes []
+none-due w = record { usable = w .usable; sizes-are = sym (w .sizes-are); on-panel = record { ascending = tt; on-panel = tt }; room = omega arith }
+
+pub made-empty : (sizes : Sizes) (before sized after : List ℕ) → WroteSizes sizes before sized → Replaced sized after [] → Becomes sizes [] (effect (accepted 0 0) before after)
 made-empty sizes before sized after w e =
     record {
       done = record {
@@ -32,5 +34,5 @@ made-empty sizes before sized after w e =
         };
       };
       holds = e .holds;
-      sizes-are = sizes-kept sized after (take-less 4 6 sized after (omega arith) (e .head)) ∙ w .sizes-are;
+      sizes-are = e .sizes-same ∙ w .sizes-are;
     }

@@ -12,6 +12,7 @@ use answers::judging::PixelJudged;
 use answers::judging::WindowJudged;
 use answers::judging::judge_pixel;
 use answers::judging::judge_window;
+use filling::fill::fill_codes;
 use measures::sizes::Sizes;
 use measures::sizes::SizesRead;
 use measures::sizes::layout_of;
@@ -21,7 +22,6 @@ use measures::sizes::within_limits;
 use measures::sizes::write_sizes;
 use query::window::Window;
 use soundness::is_sound;
-use store::reset::reset;
 
 // 01: an empty, sound register of order m, with this k, for at most so many pixels (01's N).
 pub fn make(store: &mut [u32], m: u32, k: u32, most: u32) -> Outcome
@@ -35,7 +35,8 @@ pub fn make(store: &mut [u32], m: u32, k: u32, most: u32) -> Outcome
         return Outcome::Refused(Refusal::StoreTooShort);
     }
     write_sizes(store, sizes);
-    reset(store, sizes);
+    let none = [0u32; 0];
+    fill_codes(store, sizes, &none);
     Outcome::Done
 }
 

@@ -1,8 +1,8 @@
 -- What a slot says: the words of placed elements, what was written anew, or what a splice left.
 use Prim.Native.Nat.{ℕ, _+_, _-_, _*_, _≤_, _<_}
 use native.Mathlib.Omega.{arith}
-use mathlib.Core.Path.{_≡_, ap, sym, _∙_}
-use mathlib.Core.List.{List, _++_, append-assoc}
+use mathlib.Core.Path.{_≡_, refl, ap, sym, _∙_}
+use mathlib.Core.List.{List, [], _∷_, _++_, append-assoc}
 use lib.ListN.{length, getD, take, drop, set, length-drop, List·getD-append}
 use lib.Seq.{paste, length-paste, take-at, drop-at, length-take-le, getD-take, getD-set-same, getD-set-other, drop-set-lt}
 use Rattle.pktree.specs.Elements.{size}
@@ -11,8 +11,16 @@ use Rattle.store.specs.Splice.{elementsIn, CanSplice, Spliced, withHeader}
 use Rattle.store.specs.Placed.{Placed}
 use Rattle.store.proofs.Standing.{elementWords, SlotSays}
 use Rattle.store.proofs.PlacedJoin.{length-element-words}
-use Rattle.store.proofs.Emptied.{header-says}
 use Rattle.rewrite.specs.Rewrite.{SlotNow}
+
+-- the three words of a header are those written
+header-says : (part : List ℕ) (level code count : ℕ) → 3 ≤ length part
+    → (levelWord (withHeader part level code count) ≡ level) × (codeWord (withHeader part level code count) ≡ code)
+    × (countWord (withHeader part level code count) ≡ count)
+header-says [] level code count h = absurd (omega arith)
+header-says (a ∷ []) level code count h = absurd (omega arith)
+header-says (a ∷ b ∷ []) level code count h = absurd (omega arith)
+header-says (a ∷ b ∷ c ∷ part) level code count h = (refl, refl, refl)
 
 -- a slot that says placed elements says their words
 pub says-now : {part : List ℕ} {level code : ℕ} {es : Placed} → SlotSays part level code es → SlotNow part level code (elementWords es)

@@ -1,5 +1,5 @@
 -- A closed store that is sound, so that what asks for a sound store asks nothing absurd: 01's first sample panel, m = 3, k = 3, N = 9.
--- That every usable store can be made sound is shown by `reset`.
+-- That every usable store can be made sound is shown by `building::finish`.
 use Prim.Native.Nat.{ℕ}
 use native.Mathlib.Omega.{arith}
 use mathlib.Core.Path.{refl}
@@ -10,7 +10,7 @@ use Rattle.measures.specs.Slot.{slotPart}
 use Rattle.store.specs.Placed.{Placed}
 use Rattle.store.specs.Reading.{readSlot}
 use Rattle.store.specs.Sound.{Sound, Holds}
-use Rattle.store.proofs.AllFree.{numbers-once, numbers-inside}
+use Rattle.store.proofs.FreedSlots.{numbers-once, numbers-inside}
 
 -- a free slot
 abbrev freeSlot : ℕ → List ℕ

@@ -6,6 +6,5 @@ pub mod BlockView
 pub mod OpenedSlot
 pub mod PassedElements
 pub mod FreeChains
-pub mod AllFree
-pub mod Emptied
+pub mod FreedSlots
 pub mod Inhabited

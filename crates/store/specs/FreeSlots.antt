@@ -1,5 +1,5 @@
 -- The slots that are available: a chain from word 7, each naming the next in its word 3, FFFFFFFF at the end. A free slot has level 0.
-use Prim.Native.Nat.{ℕ, _+_, _*_, _<_}
+use Prim.Native.Nat.{ℕ, zero, suc, _+_, _-_, _*_, _<_}
 use mathlib.Core.Path.{_≡_}
 use mathlib.Core.List.{List, [], _∷_}
 use lib.Dec.{eqb}
@@ -7,6 +7,7 @@ use lib.ListN.{length, take, drop, set}
 use Rattle.pktree.specs.Lists.{Every, select}
 use Rattle.measures.specs.Words.{headWords, firstFreeWord, firstFreeIndex}
 use Rattle.measures.specs.declared.sizes.Layout.{Layout}
+use Rattle.measures.specs.Layout.{storeEnd}
 use Rattle.store.specs.declared.free.FreeSlot.{FreeSlot}
 use Rattle.store.specs.declared.free.FreeSlot.the-variants.{Taken, Missing}
 use Rattle.measures.specs.Slot.{slotPart, levelWord, nextWord}
@@ -42,3 +43,16 @@ pub record Released (width slot : ℕ) (before after : List ℕ) : Type 0 where
   pub others : (other : ℕ) → (other ≡ slot → ⊥) → slotPart width after other ≡ slotPart width before other
   pub chain : (free : List ℕ) → Every (λ s. s ≡ slot → ⊥) free → FreeSlots width before free → FreeSlots width after (slot ∷ free)
   pub past : (n : ℕ) → slot < n → drop (headWords + n * width) after ≡ drop (headWords + n * width) before
+
+-- n numbers from `first` on
+abbrev pub numbersFrom : ℕ → ℕ → List ℕ
+numbersFrom first zero = []
+numbersFrom first (suc n) = first ∷ numbersFrom (suc first) n
+
+-- the slots from `first` on are free; those before it and words 0 to 6 are as they were
+pub record FreeFrom (layout : Layout) (first : ℕ) (before after : List ℕ) : Type 0 where
+  pub long : length after ≡ length before
+  pub head : take firstFreeIndex after ≡ take firstFreeIndex before
+  pub kept : (s : ℕ) → s < first → slotPart (layout .width) after s ≡ slotPart (layout .width) before s
+  pub chain : FreeSlots (layout .width) after (numbersFrom first (layout .slots - first))
+  pub past : drop (storeEnd layout) after ≡ drop (storeEnd layout) before

@@ -5,4 +5,3 @@ pub mod Placed
 pub mod Reading
 pub mod FreeSlots
 pub mod Sound
-pub mod Emptied

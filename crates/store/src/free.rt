@@ -1,6 +1,6 @@
-ghost use Prim.Native.Nat.{_+_, _<_};
+ghost use Prim.Native.Nat.{_+_, _≤_, _<_};
 ghost use Rattle.measures.specs.Layout.{LayoutFits};
-ghost use Rattle.store.specs.FreeSlots.{TookFree, Released};
+ghost use Rattle.store.specs.FreeSlots.{TookFree, Released, FreeFrom};
 use measures::sizes::Layout;
 use measures::slots::NEXT;
 use measures::slots::offset;
@@ -42,4 +42,17 @@ pub fn release(store: &mut [u32], layout: Layout, slot: usize)
     store[at] = 0;
     store[at + NEXT] = store[FIRST_FREE];
     store[FIRST_FREE] = slot as u32;
+}
+
+// The slots from `first` on are put into a chain of their own, the lowest first.
+pub fn free_from(store: &mut [u32], layout: Layout, first: usize)
+    requires { ⌜ LayoutFits layout (now store) × (first ≤ layout .slots) ⌝ }
+    ensures { λ _. ⌜ FreeFrom layout first (now (store .entry)) (now (store .exit)) ⌝ }
+{
+    store[FIRST_FREE] = NO_SLOT;
+    let mut slot = layout.slots;
+    while first < slot {
+        slot -= 1;
+        release(store, layout, slot);
+    }
 }

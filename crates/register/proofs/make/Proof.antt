@@ -1,11 +1,11 @@
--- `register::make` meets its contract: the limits and the length are judged before a word is written, and `reset` ensures the empty register.
+-- `register::make` meets its contract: the limits and the length are judged before a word is written, and a register of no codes is an empty one.
 use native.Mathlib.Omega.{arith}
-use mathlib.Core.Path.{refl, sym}
+use mathlib.Core.Path.{refl}
 use borrow.Author.Needs.{needs}
 use borrow.Author.Tests.{not-true, not-false}
 use Rattle.measures.proofs.Decides.{decided-true, decided-false}
 use Rattle.promises.specs.Effect.{passed, stopped}
-use Rattle.register.proofs.Makes.{made-empty}
+use Rattle.register.proofs.Makes.{none-due, made-empty}
 use Rattle.register.proofs.make.Statement.{statement}
 use Rattle.register.proofs.make.Tie as tie
 
@@ -32,15 +32,15 @@ write-sizes-requires c κs =
       omega (arith, c .before .if2 .left, rw (d .before .layout-of .ensures .is) at (d .store-end .ensures)),
     )
 
-reset-requires : tie.Need-reset-requires
-reset-requires c κs = let w = c .before .before .before .write-sizes in (w .ensures .usable, sym (w .ensures .sizes-are))
+fill-codes-requires : tie.Need-fill-codes-requires
+fill-codes-requires c κs = none-due (c .before .before .before .before .write-sizes .ensures)
 
 returns-3 : tie.Need-returns-3
 returns-3 c =
     let r = c .before .before in
-    let w = r .before .before .before .before in
+    let w = r .before .before .before .before .before in
     let can = write-sizes-requires (w .before) (w .write-sizes .lifetimes) in
-    passed (can .0) (passed (can .1) (made-empty _ _ (w .write-sizes .last .0) (r .reset .last .0) (w .write-sizes .ensures) (r .reset .ensures)))
+    passed (can .0) (passed (can .1) (made-empty _ _ (w .write-sizes .last .0) (r .fill-codes .last .0) (w .write-sizes .ensures) (r .fill-codes .ensures)))
 
 pub make-spec : {M : Type 1} → statement M
 make-spec =
@@ -52,6 +52,7 @@ make-spec =
     (λ c κs. search needs)
     returns-2
     write-sizes-requires
-    reset-requires
+    (λ c. search needs)
+    fill-codes-requires
     (λ c. search needs)
     returns-3)

@@ -1,4 +1,4 @@
--- All slots but the root's put into the chain, from the last down.
+-- The slots from one on put into the chain, from the last down.
 use Prim.Native.Nat.{ℕ, zero, suc, _+_, _-_, _≤_, _<_}
 use native.Mathlib.Omega.{arith}
 use native.Mathlib.Decide.{ℕ-discrete}
@@ -11,8 +11,7 @@ use Rattle.measures.specs.Words.{headWords, firstFreeIndex}
 use Rattle.measures.specs.declared.sizes.Layout.{Layout}
 use Rattle.measures.specs.Layout.{LayoutFits, storeEnd}
 use Rattle.measures.specs.Slot.{slotPart}
-use Rattle.store.specs.FreeSlots.{noSlot, FreeSlots, occurrences, Released}
-use Rattle.store.specs.Emptied.{numbersFrom, AllFree}
+use Rattle.store.specs.FreeSlots.{noSlot, occurrences, Released, numbersFrom, FreeFrom}
 use Rattle.measures.proofs.SlotWrites.{take-less, head-word-set}
 use Rattle.store.proofs.FreeChains.{occurrences-same, occurrences-other, chain-released}
 
@@ -36,23 +35,15 @@ pub numbers-inside : (first n limit : ℕ) → first + n ≤ limit → Every (λ
 numbers-inside first zero limit h = tt
 numbers-inside first (suc n) limit h = (omega arith, numbers-inside (suc first) n limit (omega arith))
 
--- the slots from `slot` on are in the chain
-pub record FreedFrom (layout : Layout) (slot : ℕ) (before after : List ℕ) : Type 0 where
-  pub long : length after ≡ length before
-  pub head : take firstFreeIndex after ≡ take firstFreeIndex before
-  pub root : slotPart (layout .width) after 0 ≡ slotPart (layout .width) before 0
-  pub chain : FreeSlots (layout .width) after (numbersFrom slot (layout .slots - slot))
-  pub past : drop (storeEnd layout) after ≡ drop (storeEnd layout) before
-
 -- a chain that ends at once
-pub none-freed : (layout : Layout) (words : List ℕ) → LayoutFits layout words → FreedFrom layout (layout .slots) (set words firstFreeIndex noSlot) (set words firstFreeIndex noSlot)
+pub none-freed : (layout : Layout) (words : List ℕ) → LayoutFits layout words → FreeFrom layout (layout .slots) (set words firstFreeIndex noSlot) (set words firstFreeIndex noSlot)
 none-freed layout words fits =
     let e : layout .slots - layout .slots ≡ 0 = omega arith in
-    record { long = refl; head = refl; root = refl; chain = rw e (getD-set-same words firstFreeIndex noSlot 0 (omega (arith, fits .lies))); past = refl }
+    record { long = refl; head = refl; kept = λ s h. refl; chain = rw e (getD-set-same words firstFreeIndex noSlot 0 (omega (arith, fits .lies))); past = refl }
 
 -- one slot released before the chain of those above it
-pub one-more-freed : (layout : Layout) (slot : ℕ) (before during after : List ℕ) → 1 < slot → slot ≤ layout .slots → FreedFrom layout slot before during
-    → Released (layout .width) (slot - 1) during after → FreedFrom layout (slot - 1) before after
+pub one-more-freed : (layout : Layout) (slot : ℕ) (before during after : List ℕ) → 1 ≤ slot → slot ≤ layout .slots → FreeFrom layout slot before during
+    → Released (layout .width) (slot - 1) during after → FreeFrom layout (slot - 1) before after
 one-more-freed layout slot before during after low high f r =
     let n : layout .slots - (slot - 1) ≡ suc (layout .slots - slot) = omega arith in
     let s : suc (slot - 1) ≡ slot = omega arith in
@@ -62,19 +53,20 @@ one-more-freed layout slot before during after low high f r =
       long = r .long ∙ f .long;
       head = take-less firstFreeIndex headWords (set during firstFreeIndex (slot - 1)) after (omega arith) (r .head ∙ sym (take-set-lt headWords during firstFreeIndex (slot - 1) (omega arith)))
           ∙ take-set-le firstFreeIndex during firstFreeIndex (slot - 1) (omega arith) ∙ f .head;
-      root = r .others 0 (λ z. omega arith) ∙ f .root;
+      kept = λ s h. r .others s (λ z. omega arith) ∙ f .kept s (omega arith);
       chain = rw (n, s) (chain-released (layout .width) (slot - 1) rest during after r out (f .chain));
       past = r .past (layout .slots) (omega arith) ∙ f .past;
     }
 
--- down to slot 1
-pub all-freed : (layout : Layout) (slot : ℕ) (before after : List ℕ) → slot ≡ 1 → FreedFrom layout slot (set before firstFreeIndex noSlot) after → AllFree layout before after
-all-freed layout slot before after e f =
+-- down to the first
+pub freed-down : (layout : Layout) (slot first : ℕ) (before after : List ℕ) → slot ≡ first → FreeFrom layout slot (set before firstFreeIndex noSlot) after
+    → FreeFrom layout first before after
+freed-down layout slot first before after e f =
     let w = head-word-set (layout .width) before firstFreeIndex noSlot (omega arith) in
-    record {
+    rw (← e) (record {
       long = f .long ∙ w .long;
       head = f .head ∙ take-set-le firstFreeIndex before firstFreeIndex noSlot (omega arith);
-      root = f .root ∙ w .slots 0;
-      chain = rw e at (f .chain);
+      kept = λ s h. f .kept s h ∙ w .slots s;
+      chain = f .chain;
       past = f .past ∙ w .past (layout .slots);
-    }
+    })
