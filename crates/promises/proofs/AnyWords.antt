@@ -79,12 +79,12 @@ module _ {before after : List ℕ} {a : Answer} where
   load-leaves (passed u (passed w (passed t (stopped f r)))) = returned-leaves (omega arith) r
   load-leaves (passed u (passed w (passed t (passed s l)))) = done-leaves (l .loaded .done)
 
-  pub fill-leaves : {codes : List ℕ} → FillMeets before after codes a → Leaves (sizesOf before) (effect a before after)
-  fill-leaves (stopped f r) = returned-leaves (omega arith) r
-  fill-leaves (passed u (stopped f r)) = returned-leaves (omega arith) r
-  fill-leaves (passed u (passed on (stopped f r))) = returned-leaves (omega arith) r
-  fill-leaves (passed u (passed on (passed room (stopped f r)))) = returned-leaves (omega arith) r
-  fill-leaves (passed u (passed on (passed room (passed up b)))) = done-leaves (b .done)
+  pub fill-leaves : (codes : List ℕ) → FillMeets before after codes a → Leaves (sizesOf before) (effect a before after)
+  fill-leaves codes (stopped f r) = returned-leaves (omega arith) r
+  fill-leaves codes (passed u (stopped f r)) = returned-leaves (omega arith) r
+  fill-leaves codes (passed u (passed on (stopped f r))) = returned-leaves (omega arith) r
+  fill-leaves codes (passed u (passed on (passed room (stopped f r)))) = returned-leaves (omega arith) r
+  fill-leaves codes (passed u (passed on (passed room (passed up b)))) = done-leaves (b .done)
 
 -- what ask and count answer: values of at most so much, zeros beside a refusal
 pub record Bounded (first second : ℕ) (a : Answer) : Type 0 where
