@@ -73,6 +73,7 @@ test: target/bin/pkshow build/dark_frame build/dark_frame_cpp build/null_test bu
 	$(PYTHON) tests/model_test.py
 	$(PYTHON) tests/pkshow_test.py
 	$(PYTHON) tests/largest_test.py
+	$(PYTHON) tests/survey_test.py
 	$(PYTHON) tests/differential.py --seed $(SEED) --histories 800
 
 soak: lib

@@ -1,6 +1,7 @@
 #!/bin/sh
 # Instructions of a call of pkreg on 20,000 pixels, counted by callgrind inside that call only, beside the targets of the design:
-# an unverified C++ PK-tree of the same layout. Needs valgrind; callgrind's files stay in build/, for callgrind_annotate.
+# an unverified C++ PK-tree of the same layout; fill beside the C++ build of bench/build.hpp, counted in the same way. Needs valgrind; callgrind's
+# files stay in build/, for callgrind_annotate.
 cd "$(dirname "$0")/.." || exit 1
 PIXELS=${PIXELS:-20000}
 
@@ -24,6 +25,17 @@ row() {
     done
 }
 
+# fill_row PANEL: the codes judged and the register built, for each pixel
+fill_row() {
+    for k in 3 8; do
+        ours=$(instructions fill pk_fill "$1" "$k") || exit 1
+        other=$(instructions fill-c++ 'unverified::fill*' "$1" "$k") || exit 1
+        echo "$ours" "$other" | awk -v panel="$1" -v k="$k" -v pixels="$PIXELS" '
+            { each = $5 / $1 / pixels; target = $10 / $6 / pixels
+              printf "%-11s %-8s %2d %10.1f per %-6s %8.1f %6.2f %9.1f\n", "fill", panel, k, each, "pixel", target, each / target, $8 / $6 }'
+    done
+}
+
 printf '%-11s %-8s %2s %10s     %-6s %8s %6s %9s\n' call panel k measured '' target ratio found/call
 for panel in spread crowded; do
     row mark pk_mark $panel call 620 600
@@ -31,5 +43,6 @@ for panel in spread crowded; do
     row ask pk_ask $panel call 400 300
     row count-all pk_count $panel pixel 21 12
     row save pk_save $panel pixel 28 20
+    fill_row $panel
 done
 row count-spot pk_count crowded call 13600 11500

@@ -1,4 +1,4 @@
-// 01 "Sample panels", run through the public calls, and the first of them damaged: what is printed is compared with the file stdout beside src.
+// 01 "Sample panels", run through the public calls: what is printed is compared with the file stdout beside src.
 ghost use mathlib.Core.Path.{_≡_};
 ghost use lib.ListN.{length};
 use crate::entries::print_image;
@@ -11,7 +11,6 @@ use measures::slots::wide;
 use morton::x_of;
 use morton::y_of;
 
-mod damage;
 mod entries;
 mod printing;
 
@@ -23,7 +22,6 @@ fn main() {
     codes();
     limits();
     full_register();
-    damage::survey_first_panel();
 }
 
 // Enough words for every panel here; a function gives them, so that no proof spells them out.
