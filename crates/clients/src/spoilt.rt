@@ -150,12 +150,17 @@ pub fn check_spoilt() -> Checking
     check_after(&mut store)
 }
 
-// The image of the first panel is loaded over the damage.
-fn mend(store: &mut [u32])
+// The image of the first panel is loaded over the damage, or its codes are filled in.
+fn mend(store: &mut [u32], filled: bool)
     requires { ⌜ 148 ≤ length (now store) ⌝ }
     ensures { λ _. ⌜ HoldsFirst (now (store .exit)) ⌝ }
 {
     make_and_spoil(store);
+    if filled {
+        let codes = [0u32, 1, 2, 60];
+        register::fill(store, &codes);
+        return;
+    }
     let image = first_image();
     register::load(store, &image);
 }
@@ -177,60 +182,34 @@ fn first_image() -> [u8; 40]
     image
 }
 
-fn list_mended(store: &mut [u32], output: &mut [u32]) -> Listing
+fn list_mended(store: &mut [u32], filled: bool, output: &mut [u32]) -> Listing
     requires { ⌜ 148 ≤ length (now store) ⌝ }
     ensures { λ r. ⌜ PanelListed (now (output .entry)) (now (output .exit)) (listAnswer r) ⌝ }
 {
-    mend(store);
+    mend(store, filled);
     register::list(store, 0, 0, 7, 7, output)
 }
 
-// A damaged store is mended by load: it lists the first panel.
-pub fn mended(output: &mut [u32]) -> Listing
+// A damaged store is mended by load, and by fill: it lists the first panel.
+pub fn mended(filled: bool, output: &mut [u32]) -> Listing
     ensures { λ r. ⌜ PanelListed (now (output .entry)) (now (output .exit)) (listAnswer r) ⌝ }
 {
     let mut store = [0u32; 148];
-    list_mended(&mut store, output)
+    list_mended(&mut store, filled, output)
 }
 
-fn check_mended(store: &mut [u32]) -> Checking
+fn check_mended(store: &mut [u32], filled: bool) -> Checking
     requires { ⌜ 148 ≤ length (now store) ⌝ }
     ensures { λ r. ⌜ checkAnswer r ≡ accepted 1 0 ⌝ }
 {
-    mend(store);
+    mend(store, filled);
     register::check(store)
 }
 
 // And check says yes.
-pub fn mended_is_sound() -> Checking
+pub fn mended_is_sound(filled: bool) -> Checking
     ensures { λ r. ⌜ checkAnswer r ≡ accepted 1 0 ⌝ }
 {
     let mut store = [0u32; 148];
-    check_mended(&mut store)
-}
-
-// The codes of the first panel are filled in over the damage.
-fn refill(store: &mut [u32])
-    requires { ⌜ 148 ≤ length (now store) ⌝ }
-    ensures { λ _. ⌜ HoldsFirst (now (store .exit)) ⌝ }
-{
-    make_and_spoil(store);
-    let codes = [0u32, 1, 2, 60];
-    register::fill(store, &codes);
-}
-
-fn list_refilled(store: &mut [u32], output: &mut [u32]) -> Listing
-    requires { ⌜ 148 ≤ length (now store) ⌝ }
-    ensures { λ r. ⌜ PanelListed (now (output .entry)) (now (output .exit)) (listAnswer r) ⌝ }
-{
-    refill(store);
-    register::list(store, 0, 0, 7, 7, output)
-}
-
-// A damaged store is mended by fill too: it lists the first panel.
-pub fn refilled(output: &mut [u32]) -> Listing
-    ensures { λ r. ⌜ PanelListed (now (output .entry)) (now (output .exit)) (listAnswer r) ⌝ }
-{
-    let mut store = [0u32; 148];
-    list_refilled(&mut store, output)
+    check_mended(&mut store, filled)
 }

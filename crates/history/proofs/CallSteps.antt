@@ -51,10 +51,15 @@ pub check-step : (words : List ℕ) (r : Checking) → CheckMeets words (checkAn
 check-step words r m = steps.by-check ([], tt) (lent words) r m
 
 -- the bytes or codes of a call, by what the part of the row beside the script was asked for
-pub of-part : (call : List ℕ → Call) (row before after part : List ℕ) (from number a b : ℕ) → part ≡ take number (drop from row) → from ≡ a → number ≡ b
-    → Step (call part) before after → Step (call (take b (drop a row))) before after
-of-part call row before after part from number a b is e f step =
-    subst (λ (l : List ℕ). Step (call l) before after) (is ∙ ap₂ (λ (n at : ℕ). take n (drop at row)) f e) step
+module _ (row before after part : List ℕ) (from number a b : ℕ) (is : part ≡ take number (drop from row)) (from-is : from ≡ a) (number-is : number ≡ b) (r : Outcome) where
+  given : part ≡ take b (drop a row)
+  given = is ∙ ap₂ (λ (n at : ℕ). take n (drop at row)) number-is from-is
+
+  pub load-part : LoadMeets before after part (answer r) → Step (load (take b (drop a row))) before after
+  load-part m = subst (λ (l : List ℕ). Step (load l) before after) given (load-step before after part r m)
+
+  pub fill-part : FillMeets before after part (answer r) → Step (fill (take b (drop a row))) before after
+  fill-part m = subst (λ (l : List ℕ). Step (fill l) before after) given (fill-step before after part r m)
 
 pub run-then : {calls : List Call} {call : Call} {before between after : List ℕ} → Run calls before between → Step call between after
     → Run (calls ++ (call ∷ [])) before after

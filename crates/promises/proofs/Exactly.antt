@@ -20,7 +20,7 @@ use Rattle.promises.specs.Output.{WrittenOrShort}
 use Rattle.promises.specs.Calls.{asked, MakeMeets, MarkMeets, ClearMeets, Loaded, LoadMeets, FillMeets, AskMeets, CountMeets, ListMeets, SaveMeets, CheckMeets}
 use Rattle.promises.proofs.Answers.{refusal-of, first-of}
 use Rattle.promises.proofs.Holding.{Holding, now-holding}
-use Rattle.promises.proofs.Ladder.{number-is, where-holds, never, exactly, then-exactly, accepted-passed}
+use Rattle.promises.proofs.Ladder.{number-is, where-holds, never, exactly, then-exactly, accepted-passed, FourChecks, four-checks}
 use Rattle.store.specs.Sound.{IsSound}
 
 -- a number of the walk, of none of the checks before it
@@ -138,19 +138,18 @@ module _ {before after bytes : List ℕ} {a : Answer} (meets : LoadMeets before 
       let l = where-holds (where-holds (where-holds (where-holds meets u) (image-well-formed u has)) (image-fits u has)) (image-of-some u has) in
       subst (λ (z : List ℕ). Holding (sizesOf before) z a after) (one-set u (l .has-image) has) (now-holding (l .loaded))
 
-  not-loaded : {number : ℕ} → (0 ≡ number → ⊥) → Loaded bytes (effect a before after) → a .refusal ≡ number → ⊥
-  not-loaded other l z = other (sym (refusal-of (l .loaded .done .done)) ∙ z)
+  checked : FourChecks (UsableStore before) (WellFormed bytes) (FitsRegister (panelIn before) (mostIn before) bytes) (ImageOfSome (panelIn before) bytes) 10 11 12
+      (Loaded bytes) (effect a before after)
+  checked = four-checks (omega arith) (omega arith) (omega arith) (λ l. refusal-of (l .loaded .done .done)) meets
 
   pub load-refusals : LoadRefusals before bytes a
   load-refusals = record {
-    unusable = exactly (never (omega arith) (never (omega arith) (never (omega arith) (not-loaded (omega arith))))) meets;
-    not-an-image = then-exactly (omega arith) (exactly (never (omega arith) (never (omega arith) (not-loaded (omega arith))))) meets;
-    image-unlike = then-exactly (omega arith) (then-exactly (omega arith) (exactly (never (omega arith) (not-loaded (omega arith))))) meets;
-    image-damaged = then-exactly (omega arith) (then-exactly (omega arith) (then-exactly (omega arith) (exactly (not-loaded (omega arith))))) meets;
+    unusable = checked .first;
+    not-an-image = checked .second;
+    image-unlike = checked .third;
+    image-damaged = checked .fourth;
     loaded = (
-      λ z. let u = accepted-passed (omega arith) meets z in
-          let l = accepted-passed (omega arith) (accepted-passed (omega arith) (accepted-passed (omega arith) (u .1) z .1) z .1) z .1 in
-          (u .0, record { set = l .set; has-image = l .has-image }),
+      λ z. let l = checked .accepted z in (l .0 .0, record { set = l .1 .set; has-image = l .1 .has-image }),
       λ c. refusal-of (image-loaded (c .0) (c .1 .has-image) .done),
     );
   }
@@ -177,20 +176,18 @@ module _ {before after codes : List ℕ} {a : Answer} (meets : FillMeets before 
   pub set-filled : UsableStore before → PixelSet (panelIn before) codes → length codes ≤ mostIn before → Holding (sizesOf before) codes a after
   set-filled u set room = now-holding (where-holds (where-holds (where-holds (where-holds meets u) (set .on-panel)) room) (set .ascending))
 
-  not-filled : {number : ℕ} → (0 ≡ number → ⊥) → Becomes (sizesOf before) codes (effect a before after) → a .refusal ≡ number → ⊥
-  not-filled other b z = other (sym (refusal-of (b .done .done)) ∙ z)
+  judged : FourChecks (UsableStore before) (Every (OnPanel (panelIn before)) codes) (length codes ≤ mostIn before) (Ascending 0 codes) 4 6 14
+      (Becomes (sizesOf before) codes) (effect a before after)
+  judged = four-checks (omega arith) (omega arith) (omega arith) (λ b. refusal-of (b .done .done)) meets
 
   pub fill-refusals : FillRefusals before codes a
   fill-refusals = record {
-    unusable = exactly (never (omega arith) (never (omega arith) (never (omega arith) (not-filled (omega arith))))) meets;
-    off-panel = then-exactly (omega arith) (exactly (never (omega arith) (never (omega arith) (not-filled (omega arith))))) meets;
-    too-many = then-exactly (omega arith) (then-exactly (omega arith) (exactly (never (omega arith) (not-filled (omega arith))))) meets;
-    not-ascending = then-exactly (omega arith) (then-exactly (omega arith) (then-exactly (omega arith) (exactly (not-filled (omega arith))))) meets;
+    unusable = judged .first;
+    off-panel = judged .second;
+    too-many = judged .third;
+    not-ascending = judged .fourth;
     filled = (
-      λ z. let u = accepted-passed (omega arith) meets z in
-          let on = accepted-passed (omega arith) (u .1) z in
-          let room = accepted-passed (omega arith) (on .1) z in
-          (u .0, (record { ascending = accepted-passed (omega arith) (room .1) z .0; on-panel = on .0 }, room .0)),
+      λ z. let (u, (on, (room, up))) = judged .accepted z .0 in (u, (record { ascending = up; on-panel = on }, room)),
       λ c. refusal-of (set-filled (c .0) (c .1 .0) (c .1 .1) .done),
     );
   }

@@ -1,5 +1,5 @@
 -- What a check of a promise says to its caller: the rest where the condition holds, the refusal where it fails, and its number exactly there.
-use Prim.Native.Nat.{ℕ}
+use Prim.Native.Nat.{ℕ, _<_}
 use native.Mathlib.Omega.{arith}
 use mathlib.Core.Path.{_≡_, sym, _∙_}
 use mathlib.Core.Logic.{_↔_, _⊎_, inl, inr}
@@ -42,6 +42,29 @@ module _ {P : Type 0} {given : Answer} {rest : Effect → Type 0} {e : Effect} w
   pub accepted-passed : (given .refusal ≡ 0 → ⊥) → (P else given then rest) e → Number 0 e → P × rest e
   accepted-passed other (passed p r) z = (p, r)
   accepted-passed other (stopped f r) z = absurd (other (sym (number-is r) ∙ z))
+
+-- 3, three more checks in ascending number, and then the call is done: each number comes exactly where the conditions before hold and its own fails
+pub record FourChecks (U A B C : Type 0) (a b c : ℕ) (rest : Effect → Type 0) (e : Effect) : Type 0 where
+  pub first : Number 3 e ↔ (U → ⊥)
+  pub second : Number a e ↔ (U × (A → ⊥))
+  pub third : Number b e ↔ (U × (A × (B → ⊥)))
+  pub fourth : Number c e ↔ (U × (A × (B × (C → ⊥))))
+  pub accepted : Number 0 e → (U × (A × (B × C))) × rest e
+
+pub four-checks : {U A B C : Type 0} {a b c : ℕ} {rest : Effect → Type 0} {e : Effect} → 3 < a → a < b → b < c → (rest e → Number 0 e)
+    → (U else refused 3 then A else refused a then B else refused b then C else refused c then rest) e → FourChecks U A B C a b c rest e
+four-checks low middle high done m = record {
+  first = exactly (never (λ z. omega arith) (never (λ z. omega arith) (never (λ z. omega arith) (λ r n. omega (arith, n, done r))))) m;
+  second = then-exactly (λ z. omega arith) (exactly (never (λ z. omega arith) (never (λ z. omega arith) (λ r n. omega (arith, n, done r))))) m;
+  third = then-exactly (λ z. omega arith) (then-exactly (λ z. omega arith) (exactly (never (λ z. omega arith) (λ r n. omega (arith, n, done r))))) m;
+  fourth = then-exactly (λ z. omega arith) (then-exactly (λ z. omega arith) (then-exactly (λ z. omega arith) (exactly (λ r n. omega (arith, n, done r))))) m;
+  accepted = λ z.
+      let u = accepted-passed (omega arith) m z in
+      let x = accepted-passed (λ n. omega arith) (u .1) z in
+      let y = accepted-passed (λ n. omega arith) (x .1) z in
+      let v = accepted-passed (λ n. omega arith) (y .1) z in
+      ((u .0, (x .0, (y .0, v .0))), v .1);
+}
 
 -- a check before the walk refused the call: 9 and 13 are no such checks
 pub record CheckRefused (e : Effect) : Type 0 where
