@@ -84,9 +84,7 @@ def to_image(arguments):
     pixels = list(itertools.islice(masked, LARGEST_MOST + 1))
     if len(pixels) > LARGEST_MOST:
         raise UserError(f"{arguments.picture}: more masked pixels than the {LARGEST_MOST} that a register holds")
-    register = Register.make(order, arguments.k, max(len(pixels), 1))
-    for x, y in pixels:
-        register.mark(x, y)
+    register = Register.from_pixels(order, arguments.k, pixels)
     with open(arguments.image, "wb") as file:
         file.write(register.save())
     return 0

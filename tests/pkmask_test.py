@@ -72,7 +72,7 @@ RUNS = [
     ("show empty.img", 2, f"empty.img: {CUT}"),
     ("show changed.img", 2, f"changed.img: {CHANGED}"),
     ("show text.img", 2, f"text.img: not a whole image: {LIMITS}"),
-    ("list first.img 0 0 8 0", 2, "refused 4: a coordinate is not on the panel"),
+    ("list first.img 0 0 8 0", 2, "refused 4: a coordinate or a code is not on the panel"),
     ("list first.img 4 0 3 0", 2, "refused 8: the window is reversed: x0 > x1 or y0 > y1"),
     ("compare first.img small.img", 2, "first.img is of order 3 and small.img of order 1: no panel is of both"),
     ("picture large.img large.pbm", 2, "a panel of order 16 is too large for a picture: 13 is the largest order"),
