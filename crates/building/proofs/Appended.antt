@@ -1,11 +1,9 @@
--- The codes appended one after the other.
-use Prim.Native.Nat.{ℕ, zero, suc, _+_, _≤_, _<_}
+-- What appending one code after the other leaves, for whoever appends: codes of a slice, or the pixels of an image.
+use Prim.Native.Nat.{ℕ}
 use native.Mathlib.Omega.{arith}
-use native.Mathlib.Numerals.{add-one}
-use mathlib.Core.Path.{_≡_, refl, subst, subst₂, sym, _∙_}
+use mathlib.Core.Path.{_≡_, refl, sym, _∙_}
 use mathlib.Core.List.{List, [], _∷_, _++_}
-use lib.ListN.{length, getD, take, drop}
-use lib.Seq.{take-suc, drop-cons, take-all, drop-nil}
+use lib.ListN.{length}
 use Rattle.pktree.specs.Elements.{empty}
 use Rattle.pktree.proofs.Alignment.{pow-pos}
 use Rattle.measures.specs.declared.sizes.Sizes.{Sizes}

@@ -5,8 +5,7 @@ use native.Mathlib.Nat.{mul-le-mul-right, div-eq-of-lt}
 use mathlib.Core.Path.{_≡_, ap, sym, _∙_}
 use mathlib.Core.List.{List, [], _∷_, _++_, append-nil}
 use lib.ListN.{length, length-set, length-append}
-use Rattle.pktree.specs.Elements.{empty, pixel, _⧺_, size}
-use Rattle.pktree.specs.Tree.{pixels}
+use Rattle.pktree.specs.Elements.{empty, pixel, _⧺_}
 use Rattle.pktree.proofs.Forests.{blockCount, blockCount-join, size-join, pixels-join}
 use Rattle.pktree.proofs.Alignment.{blockCode, blockCode-le, block-of-blockCode}
 use Rattle.pktree.proofs.Arranged.{arranged-upper}

@@ -13,7 +13,7 @@ use Rattle.pktree.specs.Elements.{ForestOf, empty, pixel, blockAt, _⧺_, size,
 use Rattle.pktree.specs.Tree.{pixels}
 use Rattle.pktree.proofs.Forests.{pixels-join, join-empty}
 use Rattle.pktree.proofs.Alignment.{pow-pos, aligned-below, blockCode, blockCode-aligned, blockCode-le, blockCode-lt, block-of-blockCode}
-use Rattle.pktree.proofs.Counting.{indicator, countIn, Sparse, countIn-join, countIn-le, sparse-of-small}
+use Rattle.pktree.proofs.Counting.{indicator, countIn, Sparse, countIn-join, countIn-le}
 use Rattle.pktree.proofs.Arranged.{quarterLevel, Arranged, LocallyRight, arranged-upper, arranged-join, countIn-all, countIn-before, size-in-range}
 use Rattle.pktree.proofs.LocalLaw.{local-is-gather}
 use Rattle.pktree.proofs.Sizes.{size-gather-any}

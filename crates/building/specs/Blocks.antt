@@ -1,6 +1,5 @@
 -- A block written to a slot.
 use Prim.Native.Nat.{ℕ, _*_, _≤_, _<_}
-use mathlib.Core.Path.{_≡_}
 use mathlib.Core.List.{List}
 use lib.ListN.{length}
 use Rattle.measures.specs.declared.sizes.Layout.{Layout}

@@ -19,10 +19,10 @@ pub struct Build {
     pub last: u32,
 }
 
-// The most elements that wait for their block: on each of 16 levels three quarters of a block, with 15 at most.
+// The most elements that wait for their block: on each of 16 levels those of three quarters, fewer than 16 in each.
 const MOST_OPEN: usize = 16 * 3 * 15;
 
-// Two words for each of them, and for the last code.
+// Two words for each of them, and for the code that comes.
 pub const STACK_WORDS: usize = 2 * (MOST_OPEN + 1);
 
 pub fn empty_stack() -> [u32; STACK_WORDS]

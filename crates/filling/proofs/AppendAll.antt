@@ -3,7 +3,7 @@ use Prim.Native.Nat.{ℕ, suc, _+_, _≤_, _<_}
 use native.Mathlib.Numerals.{add-one}
 use mathlib.Core.Path.{subst, subst₂, sym}
 use mathlib.Core.List.{List, [], _∷_}
-use lib.ListN.{length, getD, take, drop}
+use lib.ListN.{length, getD, take, drop, drop-of-length-le}
 use lib.Seq.{take-suc, drop-cons, take-all}
 use Rattle.measures.specs.declared.sizes.Sizes.{Sizes}
 use Rattle.measures.specs.declared.sizes.Layout.{Layout}
@@ -11,7 +11,6 @@ use Rattle.building.specs.declared.build.Build.{Build}
 use Rattle.building.specs.Build.{AppendDue, AppendDone}
 use Rattle.building.specs.Finish.{Appended}
 use Rattle.building.proofs.Appended.{append-due, one-appended}
-use Rattle.filling.proofs.JudgedCodes.{none-behind}
 
 module _ {sizes : Sizes} {layout : Layout} {words₀ words stack : List ℕ} {build : Build} (codes : List ℕ) (at : ℕ) (below : at < length codes)
     (a : Appended sizes layout words₀ words stack build (take at codes) (drop at codes)) where
@@ -29,4 +28,4 @@ module _ {sizes : Sizes} {layout : Layout} {words₀ words stack : List ℕ} {bu
 pub all-appended : {sizes : Sizes} {layout : Layout} {words₀ words stack : List ℕ} {build : Build} (codes : List ℕ) (at : ℕ) → length codes ≤ at
     → Appended sizes layout words₀ words stack build (take at codes) (drop at codes) → Appended sizes layout words₀ words stack build codes []
 all-appended {sizes} {layout} {words₀} {words} {stack} {build} codes at past =
-    subst₂ (Appended sizes layout words₀ words stack build) (take-all at codes past) (none-behind at codes past)
+    subst₂ (Appended sizes layout words₀ words stack build) (take-all at codes past) (drop-of-length-le codes past)

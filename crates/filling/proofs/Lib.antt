@@ -1,3 +1,3 @@
 pub mod JudgedCodes
-pub mod Ends
+pub mod FillEnds
 pub mod AppendAll

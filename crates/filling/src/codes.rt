@@ -6,6 +6,7 @@ ghost use Rattle.pktree.specs.PixelSet.{Ascending};
 use measures::slots::wide;
 use morton::block_size;
 
+// Every code is looked at, since 4 comes before 6, also from one past the N-th.
 pub fn all_on_panel(codes: &[u32], order: u32) -> bool
     requires { ⌜ order ≤ 16 ⌝ }
     ensures { λ r. ⌜ Decides r (Every (λ c. c < 4 ^ order) (now (codes .entry))) ⌝ }

@@ -38,6 +38,7 @@ fn append_all(
     build
 }
 
+// The stack is lent as a slice: an array that is lent for writing loses its length.
 fn fill_with(store: &mut [u32], sizes: Sizes, layout: Layout, stack: &mut [u32], codes: &[u32])
     requires { ⌜ BuildAt sizes layout (now store) (now stack) (now codes) ⌝ }
     ensures { λ _. ⌜ Replaced (now (store .entry)) (now (store .exit)) (now (codes .entry)) ⌝ }

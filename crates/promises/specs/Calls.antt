@@ -68,7 +68,7 @@ Loads words bytes =
 abbrev pub LoadMeets : List ℕ → List ℕ → List ℕ → Answer → Type 0
 LoadMeets before after bytes given = (UsableStore before else refused 3 then Loads before bytes) (effect given before after)
 
--- 02, P2: fill (store, codes): a register of the same sizes that holds these codes, strictly ascending and at most N; on words 0 to 3 it relies as load does
+-- 02, P2: fill (store, codes): a register of the same sizes that holds these codes, strictly ascending and at most N; like load it relies on words 0 to 3 only
 abbrev pub Fills : List ℕ → List ℕ → Effect → Type 0
 Fills words codes =
     Every (OnPanel (panelOf (sizesOf words))) codes else refused 4 then

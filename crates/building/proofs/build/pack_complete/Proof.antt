@@ -1,5 +1,4 @@
 -- `building::build::pack_complete` meets its contract. The loop's invariant: what was due at first is due still, and the stack gets shorter.
-use native.Mathlib.Omega.{arith}
 use borrow.Author.Needs.{needs}
 use Rattle.building.proofs.PackTurns.{Going, going-first, level-small, pack-here, count-falls, going-on, ends-short, ends-high}
 use Rattle.building.proofs.build.pack_complete.Statement.{statement}

@@ -1,7 +1,7 @@
 -- `filling::fill::fill` meets its contract: the three judgements come before `fill_codes`.
 use borrow.Author.Needs.{needs}
 use Rattle.measures.proofs.Usable.{sizes-valid}
-use Rattle.filling.proofs.Ends.{refused-off-panel, refused-too-many, refused-unordered, fill-due, codes-held}
+use Rattle.filling.proofs.FillEnds.{refused-off-panel, refused-too-many, refused-unordered, fill-due, codes-held}
 use Rattle.filling.proofs.fill.fill.Statement.{statement}
 use Rattle.filling.proofs.fill.fill.Tie as tie
 

@@ -1,5 +1,4 @@
 -- `filling::fill::fill_with` meets its contract: all codes are appended, then the root is laid.
-use mathlib.Core.Path.{refl}
 use borrow.Author.Needs.{needs}
 use Rattle.building.proofs.Filled.{finish-due, filled}
 use Rattle.filling.proofs.fill.fill_with.Statement.{statement}
