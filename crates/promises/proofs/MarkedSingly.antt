@@ -28,8 +28,8 @@ or-turn false true c = refl
 or-turn false false c = refl
 
 -- every code of the first list is one of the second
-abbrev Within : List ℕ → List ℕ → Type 0
-Within set codes = (code : ℕ) → member set code ≡ true → member codes code ≡ true
+abbrev Subset : List ℕ → List ℕ → Type 0
+Subset set codes = (code : ℕ) → member set code ≡ true → member codes code ≡ true
 
 member-holds : (P : ℕ → Type 0) (codes : List ℕ) (code : ℕ) → Every P codes → member codes code ≡ true → P code
 member-holds P [] code h e = zero-is-not-one (cc)
@@ -48,7 +48,7 @@ member-from from set code h e = go (decLt code from)
     go (no b) = omega arith
 
 -- a set within another one is not longer
-within-length : (from : ℕ) (set codes : List ℕ) → Ascending from set → Ascending from codes → Within set codes → length set ≤ length codes
+within-length : (from : ℕ) (set codes : List ℕ) → Ascending from set → Ascending from codes → Subset set codes → length set ≤ length codes
 within-length from [] codes h g w = omega arith
 within-length from (s ∷ set) [] h g w = zero-is-not-one (cc (w s (rw (eq-eqb s s refl))))
 within-length from (s ∷ set) (c ∷ codes) h g w = go (ℕ-discrete c s) (within-length (suc c) set codes) (within-length (suc c) (s ∷ set) codes)
@@ -59,8 +59,8 @@ within-length from (s ∷ set) (c ∷ codes) h g w = go (ℕ-discrete c s) (with
     after : (code : ℕ) → member set code ≡ true → member (s ∷ set) code ≡ true
     after code e = rw e (or-true (eqb s code))
 
-    go : Dec (c ≡ s) → (Ascending (suc c) set → Ascending (suc c) codes → Within set codes → length set ≤ length codes)
-        → (Ascending (suc c) (s ∷ set) → Ascending (suc c) codes → Within (s ∷ set) codes → suc (length set) ≤ length codes) → suc (length set) ≤ suc (length codes)
+    go : Dec (c ≡ s) → (Ascending (suc c) set → Ascending (suc c) codes → Subset set codes → length set ≤ length codes)
+        → (Ascending (suc c) (s ∷ set) → Ascending (suc c) codes → Subset (s ∷ set) codes → suc (length set) ≤ length codes) → suc (length set) ≤ suc (length codes)
     go (yes e) rest whole =
         let l = rest (rw (← e) at (h .1)) (g .1) (λ code m. past code (λ f. omega (arith, f, e, member-from (suc s) set code (h .1) m)) (after code m)) in
         omega (arith, l)
@@ -73,17 +73,17 @@ within-length from (s ∷ set) (c ∷ codes) h g w = go (ℕ-discrete c s) (with
 -- what the marks of some of the codes make of a set within them
 pub record Marked (sizes : Sizes) (codes marked before after : List ℕ) : Type 0 where
   pub is-set : PixelSet (panelOf sizes) after
-  pub inside : Within after codes
+  pub inside : Subset after codes
   pub members : (c : ℕ) → member after c ≡ (member marked c || member before c)
 
 module _ (sizes : Sizes) (codes : List ℕ) (whole : PixelSet (panelOf sizes) codes) (room : length codes ≤ sizes .most) where
   -- a set within the codes, after a mark of one of them
   module _ (x y : ℕ) (on : HasPixel (panelOf sizes) x y) (one : member codes (codeOf x y) ≡ true)
-      (set : List ℕ) (set-before : PixelSet (panelOf sizes) set) (within : Within set codes) where
+      (set : List ℕ) (set-before : PixelSet (panelOf sizes) set) (within : Subset set codes) where
     abbrev code : ℕ
     code = codeOf x y
 
-    with-code : Within (added code set) codes
+    with-code : Subset (added code set) codes
     with-code c m = go (ℕ-discrete code c)
       where
         go : Dec (code ≡ c) → member codes c ≡ true
@@ -124,8 +124,8 @@ module _ (sizes : Sizes) (codes : List ℕ) (whole : PixelSet (panelOf sizes) co
         go true e = again e
         go false e = first-time e
 
-  all-marked : (pixels : List Pixel) (set : List ℕ) → PixelSet (panelOf sizes) set → Within set codes → Every (λ p. HasPixel (panelOf sizes) (p .x) (p .y)) pixels
-      → Within (codesOf pixels) codes → Marked sizes codes (codesOf pixels) set (surviving sizes set (marksOf pixels))
+  all-marked : (pixels : List Pixel) (set : List ℕ) → PixelSet (panelOf sizes) set → Subset set codes → Every (λ p. HasPixel (panelOf sizes) (p .x) (p .y)) pixels
+      → Subset (codesOf pixels) codes → Marked sizes codes (codesOf pixels) set (surviving sizes set (marksOf pixels))
   all-marked [] set is-set inside on these = record { is-set = is-set; inside = inside; members = λ c. refl }
   all-marked (p ∷ pixels) set is-set inside on these =
       let code : ℕ = codeOf (p .x) (p .y) in
