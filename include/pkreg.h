@@ -25,9 +25,9 @@
 
 /* The version; the Makefile takes it from here. A new MAJOR gives the shared library a new name, so no program meets one that it was not
    linked for. */
-#define PK_VERSION "1.2.0"
+#define PK_VERSION "1.3.0"
 #define PK_VERSION_MAJOR 1
-#define PK_VERSION_MINOR 2
+#define PK_VERSION_MINOR 3
 #define PK_VERSION_PATCH 0
 
 #include <stddef.h>
@@ -51,7 +51,8 @@ enum {
     /* The words are no register, or fewer are lent than pk_words(k, most). Call pk_make first, and lend the same words to every call. After
        a 13 of pk_mark or pk_clear: pk_make, then pk_load of the last image. */
     PK_NO_REGISTER = 3,
-    /* A coordinate is not on the panel: give x and y below 2^m. pk_fill: a code is not; give codes below 4^m. */
+    /* pk_mark, pk_clear, pk_ask: the pixel is not on the panel; give x and y below 2^m. pk_fill: a code is not; give codes below 4^m. A window
+       may reach past the panel: see pk_count. */
     PK_OFF_PANEL = 4,
     /* pk_mark: the pixel is marked already. There is nothing to do. */
     PK_ALREADY_MARKED = 5,
@@ -108,14 +109,16 @@ uint32_t pk_fill(uint32_t *store, size_t words, const uint32_t *codes, size_t co
 /* first: 1 for a marked pixel, else 0. second: the blocks opened, which are those of the tree that contain the pixel. Refusals 3, 4, 13. */
 pk_answer pk_ask(const uint32_t *store, size_t words, uint32_t x, uint32_t y);
 
-/* The window from (x0, y0) to (x1, y1), both corners included. first: the marked pixels in it. second: the blocks opened, which are those
-   of the tree that share a pixel with it. Refusals 3, 4, 8, 13. */
+/* The window from (x0, y0) to (x1, y1), both corners included; it may reach past the panel, to any coordinate, and its part on the panel is
+   meant. first: the marked pixels in it. second: the blocks opened, which are those of the tree that share a pixel with it. A window wholly
+   off the panel gives 0 and 0 without a look at the slots, so also where the store is damaged. A corner below 0 is given as 0: as a negative
+   number it would be far beyond the panel, and the window reversed. Refusals 3, 8, 13. */
 pk_answer pk_count(const uint32_t *store, size_t words, uint32_t x0, uint32_t y0, uint32_t x1, uint32_t y1);
 
 /* As pk_count, and writes the code of each found pixel once to the first words of the output, in rising order: for the same pixels and
    window the same words, so the list can be run beside a frame stored by code. An accepted call writes no word past the number that it
    returns, also where the store is damaged. With 9, first is the words needed; an output of `most` words is
-   always long enough. Refusals 3, 4, 8, 9, 13. */
+   always long enough, and a window wholly off the panel needs none. Refusals 3, 8, 9, 13. */
 pk_answer pk_list(const uint32_t *store, size_t words, uint32_t x0, uint32_t y0, uint32_t x1, uint32_t y1,
                   uint32_t *output, size_t output_words);
 

@@ -110,7 +110,7 @@ def parse(words):
         return added
 
     command("show", show, "show an image's sizes and its entries, in the image's order", "image")
-    window = command("list", list_window, "list the masked pixels of a window, both corners included", "image")
+    window = command("list", list_window, "list the masked pixels of a window, both corners included; it may reach past the panel", "image")
     for name in ("x0", "y0", "x1", "y1"):
         window.add_argument(name, type=coordinate)
     command("compare", compare, "say whether two images mask alike, and which pixels differ", "image", "other")

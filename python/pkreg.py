@@ -16,13 +16,13 @@ import os
 from typing import NamedTuple
 
 # that of include/pkreg.h; the library is opened by the name that goes with its first number
-__version__ = "1.2.0"
+__version__ = "1.3.0"
 
 MEANINGS = {
     1: "m, k or most is beyond its limits: m is 1 to 16, k 2 to 16, most 1 to 65535",
     2: "the store is too short for k and most",
     3: "these words are no register",
-    4: "a coordinate or a code is not on the panel",
+    4: "a pixel or a code is not on the panel",
     5: "the pixel is marked already",
     6: "more pixels than the register may hold",
     7: "the pixel is not marked",
@@ -244,7 +244,8 @@ class Register:
         return Asked(answer.first == 1, answer.second)
 
     def count(self, x0, y0, x1, y1):
-        """The marked pixels in the window, both corners included, and the blocks opened."""
+        """The marked pixels in the window, both corners included, and the blocks opened: of its part on the panel, where it reaches past that.
+        A corner below 0 is given as 0."""
         answer = self._answer(_calls().pk_count(*self._lent, *map(_number, (x0, y0, x1, y1))))
         return Counted(answer.first, answer.second)
 

@@ -33,16 +33,30 @@ def pixel(random, model):
 
 
 def window(random, model):
-    """A window: the panel, one pixel, between two pixels, reversed, or off the panel."""
+    """A window: the panel, one pixel, between two pixels, reversed, over the panel's edges, or off it."""
     side, kind = 2**model.order, random.random()
     if kind < 0.2:
         return 0, 0, side - 1, side - 1
+    if kind > 0.75:
+        return over_edges(random, model)
     (xa, ya), (xb, yb) = pixel(random, model), pixel(random, model)
     if kind < 0.3:
         return xa, ya, xb, yb
     if kind < 0.4:
         return xa, ya, xa, ya
     return min(xa, xb), min(ya, yb), max(xa, xb), max(ya, yb)
+
+
+def over_edges(random, model):
+    """A window that ends near an edge or far beyond it; it begins at a pixel, in the last column or row, or off the panel."""
+    side = 2**model.order
+    ends = (side - 1, side, side + 1, 2 * side - 1, 65535, 65536, FAR)
+    low, high = [], []
+    for value in pixel(random, model):
+        first = random.choice((value, value, value, max(value - 2, 0), side - 1, random.choice((side, side + 1, 65536, FAR))))
+        low.append(first)
+        high.append(max(first, random.choice((*ends, first, min(first + 2, FAR)))))
+    return *low, *high
 
 
 def codes(random, model, limit=60):

@@ -11,6 +11,9 @@ from spoiling import DAMAGES, NO_REGISTER, SPOILED, put_sizes_right
 from subject import Subject, expect
 
 WALKING = ("mark", "clear", "ask", "count", "list", "save")
+REFUSED = {number: (number, 0, 0) for number in (3, 4, 8, 13)}
+# a window wholly off the panel is answered without a look at the slots
+NOTHING_THERE = (0, 0, 0)
 
 
 def is_spoiled(store):
@@ -18,14 +21,15 @@ def is_spoiled(store):
 
 
 def decided(store, numbers):
-    """The refusal 3, 4, 8 or 13 of a call that walks the slots; none where the walk may answer otherwise."""
+    """The answer of a call that walks the slots, where it is known without a walk; none where the walk may answer otherwise."""
     if not usable(store):
-        return 3
-    if any(number >= 2 ** store[1] for number in numbers):
-        return 4
+        return REFUSED[3]
+    off = any(number >= 2 ** store[1] for number in numbers[:2])
     if len(numbers) == 4 and (numbers[0] > numbers[2] or numbers[1] > numbers[3]):
-        return 8
-    return 13 if is_spoiled(store) else None
+        return REFUSED[8]
+    if off:
+        return NOTHING_THERE if len(numbers) == 4 else REFUSED[4]
+    return REFUSED[13] if is_spoiled(store) else None
 
 
 def arguments(random, model, name):
@@ -40,9 +44,13 @@ def arguments(random, model, name):
 def walking_call(random, subject, model, name):
     numbers, output = arguments(random, model, name)
     due = decided(subject.store, numbers)
-    refusal = subject.call(name, *numbers, output=output)[0]
-    told = refusal if refusal in (3, 4, 8) or due == 13 else None
+    answer = subject.call(name, *numbers, output=output)
+    refusal = answer[0]
+    # the walk itself gives none of these
+    told = answer if due or refusal in (3, 4, 8) else None
     expect(f"{name}{numbers} on a damaged store", told, due)
+    if due == NOTHING_THERE:
+        subject.tally["windows off a damaged panel"] += 1
     if refusal == 13 and name in ("mark", "clear"):
         all_give_3(random, subject, model)
 

@@ -39,7 +39,7 @@ def run(seed, first, number):
     calls = ", ".join(f"{tally[name]} {name}" for name in REFUSALS)
     refusals = ", ".join(f"{number}: {tally[number]}" for number in range(1, 15))
     print(f"differential: seed {seed}, histories {first} to {first + number - 1}")
-    print(f"  damaged stores: {tally['damaged stores']}, checks that said yes all the same: {tally['told sound']}")
+    print(f"  damaged stores: {tally['damaged stores']}, checks that said yes all the same: {tally['told sound']}, windows off their panel: {tally['windows off a damaged panel']}")
     print(f"  calls: {calls}")
     print(f"  refusals met: {refusals}")
     print("differential: ok")

@@ -148,9 +148,7 @@ class Model:
         return 0, int(code in self.codes), opened
 
     def window(self, x0, y0, x1, y1):
-        """The refusal of a window, the codes found in it, and the blocks that share a pixel with it."""
-        if not self._on_panel(x0, y0, x1, y1):
-            return 4, [], 0
+        """The refusal of a window, the codes found in it, and the blocks that share a pixel with it: what of it is off the panel has neither."""
         if x0 > x1 or y0 > y1:
             return 8, [], 0
         found = [code for code in sorted(self.codes) if x0 <= corner(code)[0] <= x1 and y0 <= corner(code)[1] <= y1]

@@ -41,6 +41,10 @@ def cases():
     yield first.ask(3, 3), (0, 0, 1)
     yield first.window(4, 4, 7, 7), (0, [60], 1)
     yield first.ask(8, 0), (4, 0, 0)
+    yield first.window(6, 6, 9, 2**32 - 1), (0, [60], 1)
+    yield first.window(7, 0, 2**32 - 1, 8), (0, [], 1)
+    yield [first.window(8, 0, 9, 7), first.window(0, 8, 7, 8), first.window(2**32 - 1, 0, 2**32 - 1, 0)], [(0, [], 0)] * 3
+    yield [first.window(9, 0, 8, 7), first.window(8, 9, 9, 8)], [(8, [], 0)] * 2
     yield (interleave(5, 3), interleave(65535, 65535)), (27, 4294967295)
     yield [words_needed(k, most) for k, most in ((3, 9), (1, 9), (17, 9), (3, 0), (3, 65536))], [148, 0, 0, 0, 0]
     full = holding(3, 3, range(9))

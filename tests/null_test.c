@@ -55,6 +55,7 @@ static void no_image_and_no_output(uint32_t *store)
     memcpy(before, store, sizeof before);
     expect("list to no words", pk_list(store, WORDS, 0, 0, 7, 7, NULL, 0), PK_OUTPUT_TOO_SHORT, 4, 0);
     expect("list of a window without pixels to no words", pk_list(store, WORDS, 2, 2, 3, 3, NULL, 0), PK_ACCEPTED, 0, 1);
+    expect("list of a window off the panel to no words", pk_list(store, WORDS, 8, 0, 9, 9, NULL, 0), PK_ACCEPTED, 0, 0);
     expect("save to no bytes", pk_save(store, WORDS, NULL, 0), PK_OUTPUT_TOO_SHORT, 40, 0);
     expect_refusal("load of no bytes", pk_load(store, WORDS, NULL, 0), PK_NOT_AN_IMAGE);
     expect("check afterwards", pk_check(store, WORDS), PK_ACCEPTED, 1, 0);

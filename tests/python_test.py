@@ -47,6 +47,7 @@ def cases():
     yield register.ask(1, 1), pkreg.Asked(marked=False, opened=2)
     yield register.count(4, 4, 7, 7), pkreg.Counted(found=1, opened=1)
     yield register.list(0, 0, 7, 7), pkreg.Listed(codes=[0, 1, 2, 60], opened=2)
+    yield (register.count(6, 6, 9, 2**32 - 1), register.list(8, 0, 9, 7)), (pkreg.Counted(found=1, opened=1), pkreg.Listed(codes=[], opened=0))
     image = register.save()
     yield pkreg.sizes_of(image), pkreg.Sizes(order=3, k=3, entries=6, pixels=4)
     yield pkreg.entries_of(image), [(3, 0), (1, 0), (0, 0), (0, 1), (0, 2), (0, 60)]
@@ -55,7 +56,7 @@ def cases():
     yield raised(register.mark, 0, 0), (5, 0, True)
     yield raised(register.clear, 3, 3), (7, 0, True)
     yield raised(register.ask, 8, 0), (4, 0, True)
-    yield raised(register.count, 1, 0, 0, 0), (8, 0, True)
+    yield [raised(register.count, *window) for window in ((1, 0, 0, 0), (9, 0, 8, 0), (-1, 0, 3, 3))], [(8, 0, True), (8, 0, True), "ValueError"]
     yield raised(register.load, b""), (10, 0, True)
     yield raised(Register.from_image, image[:9]), (10, 0, True)
     yield [raised(Register.make, *sizes) for sizes in ((0, 3, 9), (3, 17, 9), (3, 3, 65536))], [(1, 0, True)] * 3

@@ -1,9 +1,9 @@
--- The side of a usable store's panel, as the code makes it by a shift, and the codes of the panel's pixels.
+-- The side of a panel, as the code makes it by a shift, and the codes of the panel's pixels.
 use Prim.Native.Nat.{ℕ, _*_, _%_, _^_, _≤_}
 use native.Mathlib.Omega.{arith}
 use mathlib.Core.Path.{_≡_}
 use mathlib.Core.List.{List}
-use lib.Pow.{pow-mono}
+use lib.Pow.{pow-mono, pow-pos}
 use Rattle.morton.specs.Coordinate.{largestSide}
 use Rattle.morton.specs.Code.{codeOf}
 use Rattle.morton.proofs.Codes.{interleave-below}
@@ -19,10 +19,14 @@ Known words sizes = (sizes ≡ sizesOf words) × UsableStore words
 pub order-small : {words : List ℕ} {sizes : Sizes} → Known words sizes → sizes .order ≤ 16
 order-small known = rw (known .0) (known .1 .valid .panel .order-to)
 
+-- it has a word, and a panel has at least one pixel
+pub side-shifted : {order : ℕ} → order ≤ 16 → (1 * 2 ^ order % 4294967296 ≡ 2 ^ order) × (2 ^ order ≤ largestSide) × (1 ≤ 2 ^ order)
+side-shifted {order} low = let p : 2 ^ order ≤ 2 ^ 16 = pow-mono low in omega (arith, pow-pos order)
+
 pub side-of-order
     : {words : List ℕ} {sizes : Sizes} → Known words sizes
     → (1 * 2 ^ sizes .order % 4294967296 ≡ 2 ^ sizesOf words .order) × (2 ^ sizesOf words .order ≤ largestSide)
-side-of-order known = let p : 2 ^ _ ≤ 2 ^ 16 = pow-mono (known .1 .valid .panel .order-to) in rw (known .0) (omega arith)
+side-of-order known = let s = side-shifted (known .1 .valid .panel .order-to) in rw (known .0) (s .0, s .1)
 
 pub code-on-panel : {words : List ℕ} {sizes : Sizes} {x y code : ℕ} → Known words sizes → HasPixelOn words x y → code ≡ codeOf x y → OnPanel (panelOf sizes) code
 code-on-panel {x = x} {y = y} known on is = rw (is, known .0) (interleave-below 16 _ x y (on .0) (on .1))

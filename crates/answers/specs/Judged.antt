@@ -1,13 +1,15 @@
--- 01 "Who is refused, and how": 3, 4 and 8, in this order, each with its condition.
-use Prim.Native.Nat.{ℕ, _≤_}
+-- 01 "Who is refused, and how": 3, 4 and 8, each with its condition; 02, P3: no window is refused with 4.
+use Prim.Native.Nat.{ℕ}
 use mathlib.Core.Path.{_≡_}
 use mathlib.Core.Logic.{_⊎_}
 use mathlib.Core.List.{List}
 use Rattle.morton.specs.Code.{codeOf}
 use Rattle.pktree.specs.Panel.{OnPanel}
+use Rattle.pktree.specs.Window.{Ordered}
 use Rattle.measures.specs.declared.sizes.Sizes.{Sizes}
 use Rattle.measures.specs.Sizes.{panelOf, sizesOf, UsableStore}
-use Rattle.promises.specs.Effect.{HasPixelOn, CornersOn}
+use Rattle.promises.specs.Effect.{HasPixelOn}
+use Rattle.promises.specs.Calls.{windowGiven}
 use Rattle.answers.specs.declared.Refusal.{Refusal}
 use Rattle.answers.specs.declared.Refusal.the-variants.{NoRegister, OffPanel, WindowReversed}
 use Rattle.answers.specs.declared.judging.PixelJudged.{PixelJudged}
@@ -32,13 +34,11 @@ JudgedPixel words x y (pixel.Refused refusal) = PixelRefused words x y refusal
 pub record WindowGiven (words : List ℕ) (x0 y0 x1 y1 : ℕ) (sizes : Sizes) : Type 0 where
   pub usable : UsableStore words
   pub sizes-are : sizes ≡ sizesOf words
-  pub on-panel : CornersOn words x0 y0 x1 y1
-  pub ordered : (x0 ≤ x1) × (y0 ≤ y1)
+  pub ordered : Ordered (windowGiven x0 y0 x1 y1)
 
 abbrev pub WindowRefused : List ℕ → ℕ → ℕ → ℕ → ℕ → Refusal → Type 0
 WindowRefused words x0 y0 x1 y1 refusal =
-    ((refusal ≡ NoRegister) × (UsableStore words → ⊥)) ⊎ ((refusal ≡ OffPanel) × UsableStore words × (CornersOn words x0 y0 x1 y1 → ⊥))
-    ⊎ ((refusal ≡ WindowReversed) × UsableStore words × CornersOn words x0 y0 x1 y1 × ((x0 ≤ x1) × (y0 ≤ y1) → ⊥))
+    ((refusal ≡ NoRegister) × (UsableStore words → ⊥)) ⊎ ((refusal ≡ WindowReversed) × UsableStore words × (Ordered (windowGiven x0 y0 x1 y1) → ⊥))
 
 abbrev pub JudgedWindow : List ℕ → ℕ → ℕ → ℕ → ℕ → WindowJudged → Type 0
 JudgedWindow words x0 y0 x1 y1 (window.Window sizes) = WindowGiven words x0 y0 x1 y1 sizes

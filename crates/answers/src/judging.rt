@@ -35,26 +35,13 @@ pub enum WindowJudged {
     Refused(Refusal),
 }
 
-// A window on a usable store's panel; or 3, 4 or 8.
+// A usable store, and a window whose corners are in order; or 3 or 8.
 pub fn judge_window(store: &[u32], x0: u32, y0: u32, x1: u32, y1: u32) -> WindowJudged
     ensures { λ r. ⌜ JudgedWindow (now (store .entry)) x0 y0 x1 y1 r ⌝ }
 {
     let SizesRead::Usable(sizes) = read_sizes(store) else {
         return WindowJudged::Refused(Refusal::NoRegister);
     };
-    let side = 1u32 << sizes.order;
-    if side <= x0 {
-        return WindowJudged::Refused(Refusal::OffPanel);
-    }
-    if side <= y0 {
-        return WindowJudged::Refused(Refusal::OffPanel);
-    }
-    if side <= x1 {
-        return WindowJudged::Refused(Refusal::OffPanel);
-    }
-    if side <= y1 {
-        return WindowJudged::Refused(Refusal::OffPanel);
-    }
     if x1 < x0 {
         return WindowJudged::Refused(Refusal::WindowReversed);
     }

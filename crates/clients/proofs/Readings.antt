@@ -9,11 +9,11 @@ use Rattle.pktree.specs.Panel.{HasPixel}
 use Rattle.pktree.specs.PixelSet.{member}
 use Rattle.pktree.specs.Elements.{gather}
 use Rattle.pktree.specs.Tree.{tree}
-use Rattle.pktree.specs.Window.{someFrom, found, openedByPixel, openedByWindow}
+use Rattle.pktree.specs.Window.{Ordered, partOn, someFrom, found, openedByPixel, openedByWindow}
 use Rattle.pktree.specs.Image.{image}
 use Rattle.measures.specs.declared.sizes.Sizes.{Sizes}
 use Rattle.measures.specs.Sizes.{panelOf, sizesOf}
-use Rattle.promises.specs.Effect.{HasPixelOn, CornersOn}
+use Rattle.promises.specs.Effect.{HasPixelOn}
 use Rattle.image.specs.Held.{HasImage}
 use Rattle.promises.specs.Answer.{Answer, accepted, yesNo}
 use Rattle.promises.specs.Calls.{asked, MarkMeets, ClearMeets, AskMeets, windowGiven, CountMeets, ListMeets, SaveMeets, LoadMeets, FillMeets, CheckMeets}
@@ -43,19 +43,28 @@ unmarked-3 : accepted (yesNo (member firstSet (codeOf 1 1))) (openedByPixel (cod
 unfolding interleave gather
 unmarked-3 = refl
 
-abbrev foundOpened : ℕ → ℕ → ℕ → ℕ → Answer
-foundOpened x0 y0 x1 y1 =
-    accepted (length (found (windowGiven x0 y0 x1 y1) firstSet)) (openedByWindow (windowGiven x0 y0 x1 y1) (tree (panelOf (asked 3 3 9)) (member firstSet)))
+-- of a window's part on a panel of these sizes
+abbrev partFound : Sizes → ℕ → ℕ → ℕ → ℕ → List ℕ
+partFound sizes x0 y0 x1 y1 = found (partOn (panelOf sizes) (windowGiven x0 y0 x1 y1)) firstSet
 
-upper-right : foundOpened 4 4 7 7 ≡ accepted 1 1
+abbrev foundOpened : Sizes → ℕ → ℕ → ℕ → ℕ → Answer
+foundOpened sizes x0 y0 x1 y1 =
+    accepted (length (partFound sizes x0 y0 x1 y1)) (openedByWindow (partOn (panelOf sizes) (windowGiven x0 y0 x1 y1)) (tree (panelOf sizes) (member firstSet)))
+
+upper-right : foundOpened (asked 3 3 9) 4 4 7 7 ≡ accepted 1 1
 unfolding gather gatherBits someFrom
 upper-right = refl
 
-all-codes : found (windowGiven 0 0 7 7) firstSet ≡ firstSet
+-- over the right and the upper edge, to the largest coordinate of a call
+over-edges : foundOpened (asked 3 3 9) 6 6 9 4294967295 ≡ accepted 1 1
+unfolding gather gatherBits someFrom
+over-edges = refl
+
+all-codes : partFound (asked 3 3 9) 0 0 7 7 ≡ firstSet
 unfolding gatherBits
 all-codes = refl
 
-all-found : foundOpened 0 0 7 7 ≡ accepted 4 2
+all-found : foundOpened (asked 3 3 9) 0 0 7 7 ≡ accepted 4 2
 unfolding gather gatherBits someFrom
 all-found = refl
 
@@ -76,10 +85,6 @@ module _ {words : List ℕ} (h : HoldsFirst words) where
   on-9 : {x y : ℕ} → HasPixel (panelOf (asked 3 3 9)) x y → HasPixelOn words x y
   on-9 {x} {y} on = subst (λ (s : Sizes). HasPixel (panelOf s) x y) (sym (h .sizes-are)) on
 
-  -- the window's corners are on its panel
-  corners : {x0 y0 x1 y1 : ℕ} → HasPixel (panelOf (asked 3 3 9)) x0 y0 × HasPixel (panelOf (asked 3 3 9)) x1 y1 → CornersOn words x0 y0 x1 y1
-  corners {x0} {y0} {x1} {y1} on = subst (λ (s : Sizes). HasPixel (panelOf s) x0 y0 × HasPixel (panelOf s) x1 y1) (sym (h .sizes-are)) on
-
   -- its image, of the sizes that it was made with
   image-of-panel : image (panelOf (sizesOf words)) firstSet ≡ firstImage
   image-of-panel = subst (λ (s : Sizes). image (panelOf s) firstSet ≡ firstImage) (sym (h .sizes-are)) image-is
@@ -92,25 +97,26 @@ module _ {words : List ℕ} (h : HoldsFirst words) {a : Answer} where
         (h .sizes-are) (ask-answers (h .holds) m) on;
   }
 
+  counted : {x0 y0 x1 y1 : ℕ} → Ordered (windowGiven x0 y0 x1 y1) → CountMeets words x0 y0 x1 y1 a → a ≡ foundOpened (asked 3 3 9) x0 y0 x1 y1
+  counted {x0} {y0} {x1} {y1} ordered m = subst (λ (s : Sizes). a ≡ foundOpened s x0 y0 x1 y1) (h .sizes-are) (count-answers (h .holds) ordered m)
+
   pub counted-panel : CountMeets words 4 4 7 7 a → a ≡ accepted 1 1
-  counted-panel m =
-      subst
-      (λ (s : Sizes). a ≡ accepted (length (found (windowGiven 4 4 7 7) firstSet)) (openedByWindow (windowGiven 4 4 7 7) (tree (panelOf s) (member firstSet))))
-      (h .sizes-are) (count-answers (h .holds) (corners h ((omega arith, omega arith), (omega arith, omega arith))) (omega arith, omega arith) m)
-      ∙ upper-right
+  counted-panel m = counted (record { x-ordered = omega arith; y-ordered = omega arith }) m ∙ upper-right
+
+  pub counted-over-edges : CountMeets words 6 6 9 4294967295 a → a ≡ accepted 1 1
+  counted-over-edges m = counted (record { x-ordered = omega arith; y-ordered = omega arith }) m ∙ over-edges
 
   pub listed-panel : {before after : List ℕ} → ListMeets words 0 0 7 7 before after a → PanelListed before after a
-  listed-panel {before} m =
-      let on : CornersOn words 0 0 7 7 = corners h ((omega arith, omega arith), (omega arith, omega arith)) in
+  listed-panel {before} {after} m =
+      let ordered : Ordered (windowGiven 0 0 7 7) = record { x-ordered = omega arith; y-ordered = omega arith } in
+      let codes : partFound (sizesOf words) 0 0 7 7 ≡ firstSet = subst (λ (s : Sizes). partFound s 0 0 7 7 ≡ firstSet) (sym (h .sizes-are)) all-codes in
       record {
-        written = λ room. let w = list-writes (h .holds) on (omega arith, omega arith) m (rw all-codes room) in (
-          subst
-              (λ (s : Sizes). a ≡ accepted (length (found (windowGiven 0 0 7 7) firstSet)) (openedByWindow (windowGiven 0 0 7 7) (tree (panelOf s) (member firstSet))))
-              (h .sizes-are) (w .0)
-              ∙ all-found,
-          rw all-codes at (w .1),
+        written = λ room. let w = list-writes (h .holds) ordered m (subst (λ (l : List ℕ). length l ≤ length before) (sym codes) room) in (
+          subst (λ (s : Sizes). a ≡ foundOpened s 0 0 7 7) (h .sizes-are) (w .0) ∙ all-found,
+          subst (λ (l : List ℕ). after ≡ l ++ drop (length l) before) codes (w .1),
         );
-        lacking = λ lacks. let r = list-short (h .holds) on (omega arith, omega arith) m (rw all-codes lacks) in (r .0, rw all-codes at (r .1), r .3);
+        lacking = λ lacks. let r = list-short (h .holds) ordered m (subst (λ (l : List ℕ). length before < length l) (sym codes) lacks) in
+            (r .0, r .1 ∙ ap length codes, r .3);
       }
 
   pub saved-panel : {before after : List ℕ} → SaveMeets words before after a → PanelSaved before after a
@@ -143,15 +149,16 @@ module _ {words : List ℕ} (h : HoldsFirst words) {after : List ℕ} {a : Answe
 
   pub cleared-listed : {b : Answer} {before written : List ℕ} → ClearMeets words after 1 0 a → ListMeets after 0 0 7 7 before written b → ClearedListed before written b
   unfolding interleave gather gatherBits someFrom
-  cleared-listed {b} m l =
+  cleared-listed {b} {before} {written} m l =
       let c = clear-removes (h .holds) (on-9 h (omega arith, omega arith)) m refl in
       let s = c .sizes-are ∙ h .sizes-are in
-      let on : CornersOn after 0 0 7 7 =
-      subst (λ (z : Sizes). HasPixel (panelOf z) 0 0 × HasPixel (panelOf z) 7 7) (sym s) ((omega arith, omega arith), (omega arith, omega arith)) in
+      let left : List ℕ = 0 ∷ 2 ∷ 60 ∷ [] in
+      let codes : (z : Sizes) → List ℕ = λ z. found (partOn (panelOf z) (windowGiven 0 0 7 7)) left in
+      let all : codes (sizesOf after) ≡ left = subst (λ (z : Sizes). codes z ≡ left) (sym s) refl in
       record {
-        written = λ room. let w = list-writes (c .holds) on (omega arith, omega arith) l room in (
-          subst (λ (z : Sizes). b ≡ accepted 3 (openedByWindow (windowGiven 0 0 7 7) (tree (panelOf z) (member (0 ∷ 2 ∷ 60 ∷ []))))) s (w .0),
-          w .1,
+        written = λ room. let w = list-writes (c .holds) (record { x-ordered = omega arith; y-ordered = omega arith }) l (subst (λ (f : List ℕ). length f ≤ length before) (sym all) room) in (
+          subst (λ (z : Sizes). b ≡ accepted (length (codes z)) (openedByWindow (partOn (panelOf z) (windowGiven 0 0 7 7)) (tree (panelOf z) (member left)))) s (w .0),
+          subst (λ (f : List ℕ). written ≡ f ++ drop (length f) before) all (w .1),
         );
       }
 

@@ -4,21 +4,23 @@ use native.Mathlib.Omega.{arith}
 use mathlib.Core.Path.{_≡_, refl, sym, subst, _∙_}
 use mathlib.Core.Logic.{inl, inr}
 use mathlib.Core.List.{List}
-use lib.ListN.{length, getD}
+use lib.ListN.{length, getD, drop}
 use lib.Pow.{pow-mono}
 use Rattle.pktree.specs.Panel.{HasPixel}
+use Rattle.pktree.specs.Window.{Ordered, partOn}
+use Rattle.pktree.proofs.Parts.{WhollyOff}
 use Rattle.measures.specs.declared.sizes.Sizes.{Sizes}
 use Rattle.measures.specs.Sizes.{panelOf, sizesOf, storeWords, UsableStore}
 use Rattle.measures.proofs.Usable.{sizes-kept, usable-kept}
-use Rattle.promises.specs.Effect.{HasPixelOn, CornersOn, passed, stopped}
+use Rattle.promises.specs.Effect.{HasPixelOn, partIn, passed, stopped}
 use Rattle.promises.specs.Answer.{Answer, accepted, refused}
-use Rattle.promises.specs.Calls.{asked, MakeMeets, MarkMeets, ClearMeets, AskMeets, CountMeets, ListMeets, SaveMeets, CheckMeets}
-use Rattle.promises.proofs.Answers.{refusal-of}
+use Rattle.promises.specs.Calls.{asked, MakeMeets, MarkMeets, ClearMeets, AskMeets, windowGiven, CountMeets, ListMeets, SaveMeets, CheckMeets}
+use Rattle.promises.proofs.Answers.{refusal-of, first-of}
 use Rattle.promises.proofs.Ladder.{number-is}
-use Rattle.promises.proofs.Exactly.{mark-refusals, clear-refusals, check-answers}
-use Rattle.promises.proofs.AnyWords.{mark-leaves, clear-leaves}
+use Rattle.promises.proofs.Exactly.{mark-refusals, clear-refusals, count-refusals, list-refusals, check-answers}
+use Rattle.promises.proofs.AnyWords.{mark-leaves, clear-leaves, list-leaves}
 use Rattle.promises.proofs.OnSound.{ask-answers, mark-spoiled, clear-spoiled, ask-spoiled, count-spoiled, list-spoiled, save-spoiled}
-use Rattle.clients.specs.Known.{Overwritten, SpoiltOf9, DamagedThenUnusable, OffEveryPanel}
+use Rattle.clients.specs.Known.{Overwritten, SpoiltOf9, DamagedThenUnusable, NothingListed, OffEveryPanel}
 use Rattle.clients.proofs.Marks.{made-9}
 use Rattle.store.specs.Sound.{IsSound}
 
@@ -40,8 +42,12 @@ module _ {words : List ℕ} (s : SpoiltOf9 words) where
   pixel-on : {x y : ℕ} → HasPixel (panelOf (asked 3 3 9)) x y → HasPixelOn words x y
   pixel-on {x} {y} on = subst (λ (z : Sizes). HasPixel (panelOf z) x y) (sym (s .sizes-are)) on
 
-  corners-on : CornersOn words 0 0 7 7
-  corners-on = (pixel-on (omega arith, omega arith), pixel-on (omega arith, omega arith))
+  whole-panel : Ordered (partIn words (windowGiven 0 0 7 7))
+  whole-panel = subst (λ (z : Sizes). Ordered (partOn (panelOf z) (windowGiven 0 0 7 7))) (sym (s .sizes-are)) (record { x-ordered = omega arith; y-ordered = omega arith })
+
+  -- no pixel of the panel has a coordinate of 8 or more
+  off-panel : WhollyOff (panelOf (sizesOf words)) (windowGiven 8 0 4294967295 7)
+  off-panel = subst (λ (z : Sizes). WhollyOff (panelOf z) (windowGiven 8 0 4294967295 7)) (sym (s .sizes-are)) (λ x y on between. omega (arith, on .0, between .0))
 
   module _ {between after : List ℕ} {a b : Answer} {first second : ℕ} where
     -- 13, and 3 from the call after it
@@ -60,10 +66,19 @@ module _ {words : List ℕ} (s : SpoiltOf9 words) where
     asked-spoilt m = ask-spoiled (s .usable) (s .spoilt) (pixel-on (omega arith, omega arith)) m
 
     pub counted-spoilt : CountMeets words 0 0 7 7 a → a ≡ refused 13
-    counted-spoilt m = count-spoiled (s .usable) (s .spoilt) corners-on (omega arith, omega arith) m
+    counted-spoilt m = count-spoiled (s .usable) (s .spoilt) whole-panel m
 
     pub listed-spoilt : {before after : List ℕ} → ListMeets words 0 0 7 7 before after a → a ≡ refused 13
-    listed-spoilt m = list-spoiled (s .usable) (s .spoilt) corners-on (omega arith, omega arith) m
+    listed-spoilt m = list-spoiled (s .usable) (s .spoilt) whole-panel m
+
+    -- a window wholly off the panel is answered without a look at the slots
+    pub counted-off : CountMeets words 8 0 4294967295 7 a → a ≡ accepted 0 0
+    counted-off m = count-refusals m .wholly-off (s .usable) (record { x-ordered = omega arith; y-ordered = omega arith }) off-panel
+
+    pub listed-off : {before after : List ℕ} → ListMeets words 8 0 4294967295 7 before after a → NothingListed before after a
+    listed-off {before} {after} m =
+        let e = list-refusals m .wholly-off (s .usable) (record { x-ordered = omega arith; y-ordered = omega arith }) off-panel in
+        record { none = e; same = subst (λ (n : ℕ). drop n after ≡ drop n before) (first-of e) (list-leaves m .rest (refusal-of e)) }
 
     pub saved-spoilt : {before after : List ℕ} → SaveMeets words before after a → a ≡ refused 13
     saved-spoilt m = save-spoiled (s .usable) (s .spoilt) m

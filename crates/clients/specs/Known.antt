@@ -73,6 +73,11 @@ pub record DamagedThenUnusable (first second : ℕ) : Type 0 where
   pub damaged : first ≡ 13
   pub unusable : second ≡ 3
 
+-- 02, P3: a window wholly off the panel, with an output of any length
+pub record NothingListed (before after : List ℕ) (a : Answer) : Type 0 where
+  pub none : a ≡ accepted 0 0
+  pub same : after ≡ before
+
 -- a refused call changed nothing: a coordinate that is on no panel gives 3 or 4
 pub record OffEveryPanel (before after : List ℕ) (r : ℕ) : Type 0 where
   pub number : (r ≡ 3) ⊎ (r ≡ 4)

@@ -6,7 +6,7 @@ ghost use mathlib.Core.Logic.{_↔_};
 ghost use Rattle.measures.specs.Sizes.{sizesOf, UsableStore};
 ghost use Rattle.image.specs.Held.{mostBytes};
 ghost use Rattle.promises.specs.Effect.{effect};
-ghost use Rattle.promises.specs.Calls.{asked, slotsIn};
+ghost use Rattle.promises.specs.Calls.{asked, windowGiven, slotsIn};
 ghost use Rattle.promises.proofs.Exactly.{MakeRefusals, PixelRefusals, WindowRefusals, LoadRefusals, FillRefusals, CheckAnswers};
 ghost use Rattle.promises.proofs.AnyWords.{Leaves, Bounded, OutputLeft};
 ghost use Rattle.answers.specs.Answer.{answer, askAnswer, countAnswer, listAnswer, saveAnswer, checkAnswer};
@@ -55,13 +55,13 @@ pub fn ask(store: &[u32], x: u32, y: u32) -> Asking
 }
 
 pub fn count(store: &[u32], x0: u32, y0: u32, x1: u32, y1: u32) -> Counting
-    ensures { λ r. ⌜ WindowRefusals (now (store .entry)) x0 y0 x1 y1 (countAnswer r) × Bounded (sizesOf (now (store .entry)) .most) (slotsIn (now (store .entry))) (countAnswer r) ⌝ }
+    ensures { λ r. ⌜ WindowRefusals (now (store .entry)) (windowGiven x0 y0 x1 y1) (countAnswer r) × Bounded (sizesOf (now (store .entry)) .most) (slotsIn (now (store .entry))) (countAnswer r) ⌝ }
 {
     register::count(store, x0, y0, x1, y1)
 }
 
 pub fn list(store: &[u32], x0: u32, y0: u32, x1: u32, y1: u32, output: &mut [u32]) -> Listing
-    ensures { λ r. ⌜ WindowRefusals (now (store .entry)) x0 y0 x1 y1 (listAnswer r) × OutputLeft (sizesOf (now (store .entry)) .most) (slotsIn (now (store .entry))) (effect (listAnswer r) (now (output .entry)) (now (output .exit))) ⌝ }
+    ensures { λ r. ⌜ WindowRefusals (now (store .entry)) (windowGiven x0 y0 x1 y1) (listAnswer r) × OutputLeft (sizesOf (now (store .entry)) .most) (slotsIn (now (store .entry))) (effect (listAnswer r) (now (output .entry)) (now (output .exit))) ⌝ }
 {
     register::list(store, x0, y0, x1, y1, output)
 }

@@ -63,6 +63,22 @@ pub fn count_window() -> Counting
     count_panel(&mut store)
 }
 
+fn count_over(store: &mut [u32]) -> Counting
+    requires { ⌜ 148 ≤ length (now store) ⌝ }
+    ensures { λ r. ⌜ countAnswer r ≡ accepted 1 1 ⌝ }
+{
+    first_panel(store);
+    register::count(store, 6, 6, 9, 0xFFFFFFFF)
+}
+
+// 02, P3: over the right and the upper edge, it finds what its part on the panel has: code 60, 1 opened.
+pub fn count_over_edges() -> Counting
+    ensures { λ r. ⌜ countAnswer r ≡ accepted 1 1 ⌝ }
+{
+    let mut store = [0u32; 148];
+    count_over(&mut store)
+}
+
 fn list_panel(store: &mut [u32], output: &mut [u32]) -> Listing
     requires { ⌜ 148 ≤ length (now store) ⌝ }
     ensures { λ r. ⌜ PanelListed (now (output .entry)) (now (output .exit)) (listAnswer r) ⌝ }

@@ -4,7 +4,7 @@ ghost use mathlib.Core.Path.{_≡_};
 ghost use lib.ListN.{length};
 ghost use Rattle.promises.specs.Answer.{accepted, refused};
 ghost use Rattle.answers.specs.Answer.{askAnswer, countAnswer, listAnswer, saveAnswer, checkAnswer};
-ghost use Rattle.clients.specs.Known.{HoldsFirst, firstImage, PanelListed, Overwritten, SpoiltOf9, DamagedThenUnusable};
+ghost use Rattle.clients.specs.Known.{HoldsFirst, firstImage, PanelListed, Overwritten, SpoiltOf9, DamagedThenUnusable, NothingListed};
 use answers::Asking;
 use answers::Checking;
 use answers::Counting;
@@ -116,6 +116,38 @@ pub fn list_spoilt(output: &mut [u32]) -> Listing
 {
     let mut store = [0u32; 148];
     list_after(&mut store, output)
+}
+
+fn count_off(store: &mut [u32]) -> Counting
+    requires { ⌜ 148 ≤ length (now store) ⌝ }
+    ensures { λ r. ⌜ countAnswer r ≡ accepted 0 0 ⌝ }
+{
+    make_and_spoil(store);
+    register::count(store, 8, 0, 0xFFFFFFFF, 7)
+}
+
+// 02, P3: a window wholly off the panel finds 0 and opens 0, also here.
+pub fn count_off_panel() -> Counting
+    ensures { λ r. ⌜ countAnswer r ≡ accepted 0 0 ⌝ }
+{
+    let mut store = [0u32; 148];
+    count_off(&mut store)
+}
+
+fn list_off(store: &mut [u32], output: &mut [u32]) -> Listing
+    requires { ⌜ 148 ≤ length (now store) ⌝ }
+    ensures { λ r. ⌜ NothingListed (now (output .entry)) (now (output .exit)) (listAnswer r) ⌝ }
+{
+    make_and_spoil(store);
+    register::list(store, 8, 0, 0xFFFFFFFF, 7, output)
+}
+
+// And writes nothing, whatever the output's length.
+pub fn list_off_panel(output: &mut [u32]) -> Listing
+    ensures { λ r. ⌜ NothingListed (now (output .entry)) (now (output .exit)) (listAnswer r) ⌝ }
+{
+    let mut store = [0u32; 148];
+    list_off(&mut store, output)
 }
 
 fn save_after(store: &mut [u32], output: &mut [u8]) -> Saving

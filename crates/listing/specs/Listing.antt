@@ -6,7 +6,7 @@ use lib.ListN.{length, take, drop}
 use Rattle.pktree.specs.Elements.{Forest, empty, pixel}
 use Rattle.pktree.specs.Tree.{pixels}
 use Rattle.pktree.specs.Window as tree
-use Rattle.pktree.specs.Window.{found, openedByWindow}
+use Rattle.pktree.specs.Window.{found, Ordered, openedByWindow}
 use Rattle.measures.specs.Layout.{levelAboveRoot}
 use Rattle.measures.specs.Sizes.{largestMost}
 use Rattle.store.specs.Opening.{CannotOpen}
@@ -14,10 +14,10 @@ use Rattle.walks.proofs.Walks.{InsideWalked}
 use Rattle.query.specs.declared.count.RangeQuery.{RangeQuery}
 use Rattle.query.specs.declared.count.Sum.{Sum}
 use Rattle.promises.specs.Answer.{accepted}
-use Rattle.promises.specs.Effect.{effect}
+use Rattle.promises.specs.Effect.{effect, partIn, OfPart}
 use Rattle.promises.specs.Calls as calls
 use Rattle.query.specs.declared.window.Corners.{Corners}
-use Rattle.query.specs.Corners.{windowBetween, Ordered}
+use Rattle.query.specs.Corners.{windowBetween}
 use Rattle.query.specs.Counting.{foundIn, Counts, PixelCounted}
 
 -- these codes written from index `at` on, the rest unchanged
@@ -51,7 +51,7 @@ pub record PixelListed (corners : Corners) (code at : ℕ) (before after : List 
   pub long : length after ≡ length before
   pub wrote : Ordered (windowBetween corners) → Wrote (windowBetween corners) (pixel code empty) at before after
 
--- count has found so many pixels
+-- count has found so many pixels in the window's part on the panel
 pub record CountedBefore (words : List ℕ) (window : tree.Window) (n : ℕ) : Type 0 where
   pub opened : ℕ
-  pub counts : calls.Counts words window (effect (accepted n opened) words words)
+  pub counts : OfPart words window (calls.Counts words (partIn words window)) (effect (accepted n opened) words words)

@@ -1,12 +1,13 @@
 // Listing: the walk of count, which also writes the codes that it finds.
 ghost use Prim.Native.Nat.{_≤_};
 ghost use lib.ListN.{length};
-ghost use Rattle.promises.specs.Effect.{effect};
+ghost use mathlib.Core.Path.{_≡_};
+ghost use Rattle.measures.specs.Sizes.{UsableStore, sizesOf};
+ghost use Rattle.promises.specs.Effect.{effect, partIn, OfPart};
 ghost use Rattle.promises.specs.Calls as calls;
 ghost use Rattle.answers.specs.Answer.{listAnswer};
 ghost use Rattle.listing.specs.Listing.{PixelListed, BlockListed, RootListed, CountedBefore};
 ghost use Rattle.query.specs.Corners.{windowOf};
-ghost use Rattle.query.specs.Counting.{CanCount};
 ghost use Rattle.measures.specs.Layout.{LayoutFits};
 use answers::Counting;
 use answers::Listing;
@@ -20,10 +21,11 @@ use query::count::count;
 use query::count::too_many;
 use query::count::within;
 use query::window::Corners;
+use query::window::Part;
 use query::window::Window;
-use query::window::corners_of;
 use query::window::has_pixel;
 use query::window::meets;
+use query::window::part_on;
 use std::num::wrapping_add_u32;
 use store::elements::Element;
 use store::elements::element_at;
@@ -103,7 +105,7 @@ fn list_root(store: &[u32], range: RangeQuery, order: u32, output: &mut [u32], n
     )
 }
 
-// So many pixels were counted: they are written, where the output has room for them.
+// So many pixels were counted in the window's part on the panel: they are written, where the output has room for them.
 fn list_counted(
     store: &[u32],
     sizes: Sizes,
@@ -111,18 +113,21 @@ fn list_counted(
     output: &mut [u32],
     found: u32,
 ) -> Listing
-    requires { ⌜ CanCount (now store) sizes window × CountedBefore (now store) (windowOf window) found ⌝ }
-    ensures { λ r. ⌜ calls.Lists (now (store .entry)) (windowOf window) (effect (listAnswer r) (now (output .entry)) (now (output .exit))) ⌝ }
+    requires { ⌜ (UsableStore (now store) × (sizes ≡ sizesOf (now store))) × CountedBefore (now store) (windowOf window) found ⌝ }
+    ensures { λ r. ⌜ OfPart (now (store .entry)) (windowOf window) (calls.Lists (now (store .entry)) (partIn (now (store .entry)) (windowOf window))) (effect (listAnswer r) (now (output .entry)) (now (output .exit))) ⌝ }
 {
+    let Part::Between(corners) = part_on(sizes, window) else {
+        return Listing::Found {
+            found: 0,
+            opened: 0,
+        };
+    };
     let n = wide(found);
     if output.len() < n {
         return Listing::Short(found);
     }
     let layout = layout_of(sizes);
-    let range = RangeQuery {
-        layout,
-        corners: corners_of(window),
-    };
+    let range = RangeQuery { layout, corners };
     let sum = list_root(store, range, sizes.order, output, n);
     match within(sizes.most, layout, sum) {
         Counting::Found { found: _, opened } => Listing::Found { found, opened },
@@ -130,10 +135,10 @@ fn list_counted(
     }
 }
 
-// 01's list, where refusals 3, 4 and 8 do not apply: it counts first, so that nothing is written to an output that is too short.
+// 01's list of the window's part on the panel, where refusal 3 does not apply: it counts first, so that nothing is written to an output that is too short.
 pub fn list(store: &[u32], sizes: Sizes, window: Window, output: &mut [u32]) -> Listing
-    requires { ⌜ CanCount (now store) sizes window ⌝ }
-    ensures { λ r. ⌜ calls.Lists (now (store .entry)) (windowOf window) (effect (listAnswer r) (now (output .entry)) (now (output .exit))) ⌝ }
+    requires { ⌜ UsableStore (now store) × (sizes ≡ sizesOf (now store)) ⌝ }
+    ensures { λ r. ⌜ OfPart (now (store .entry)) (windowOf window) (calls.Lists (now (store .entry)) (partIn (now (store .entry)) (windowOf window))) (effect (listAnswer r) (now (output .entry)) (now (output .exit))) ⌝ }
 {
     match count(store, sizes, window) {
         Counting::Found { found, opened: _ } => list_counted(store, sizes, window, output, found),

@@ -18,4 +18,5 @@ pub mod OneChange
 pub mod Images
 pub mod InTree
 pub mod Windows
+pub mod Parts
 pub mod Samples

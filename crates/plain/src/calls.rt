@@ -47,22 +47,19 @@ pub fn make(m: u32, k: u32, most: u32, length: usize, set: &mut Set) -> u32 {
     0
 }
 
-fn window_refusal(panel: Panel, length: usize, window: Window) -> u32 {
+fn pixel_refusal(panel: Panel, length: usize, x: u32, y: u32) -> u32 {
     let side = side_of(panel.m);
     if length < panel.words {
         return 3;
     }
-    if (side <= window.x0) | (side <= window.y0) | (side <= window.x1) | (side <= window.y1) {
+    if (side <= x) | (side <= y) {
         return 4;
-    }
-    if (window.x1 < window.x0) | (window.y1 < window.y0) {
-        return 8;
     }
     0
 }
 
 fn change_refusal(panel: Panel, length: usize, x: u32, y: u32, marked: bool, set: &Set) -> u32 {
-    let refusal = window_refusal(panel, length, window::around(x, y));
+    let refusal = pixel_refusal(panel, length, x, y);
     if refusal != 0 {
         return refusal;
     }
@@ -88,17 +85,32 @@ pub fn change(panel: Panel, length: usize, x: u32, y: u32, marked: bool, set: &m
     refusal
 }
 
-// Ask is a count in the window of the pixel alone: the blocks that contain the pixel are those that share one with it.
-pub fn count(panel: Panel, length: usize, window: Window, set: &Set) -> Answer {
-    let refusal = window_refusal(panel, length, window);
-    if refusal != 0 {
-        return answered(refusal, 0, 0);
-    }
+// What a window finds and opens. What of it is off the panel has no pixel and no block.
+fn seen(panel: Panel, window: Window, set: &Set) -> Answer {
     answered(
         0,
         window::entries(panel, set, window, 0, 0) as usize,
         window::entries(panel, set, window, 1, 4) as usize,
     )
+}
+
+// The blocks that contain the pixel are those that share one with the window of the pixel alone.
+pub fn ask(panel: Panel, length: usize, x: u32, y: u32, set: &Set) -> Answer {
+    let refusal = pixel_refusal(panel, length, x, y);
+    if refusal != 0 {
+        return answered(refusal, 0, 0);
+    }
+    seen(panel, window::around(x, y), set)
+}
+
+pub fn count(panel: Panel, length: usize, window: Window, set: &Set) -> Answer {
+    if length < panel.words {
+        return answered(3, 0, 0);
+    }
+    if (window.x1 < window.x0) | (window.y1 < window.y0) {
+        return answered(8, 0, 0);
+    }
+    seen(panel, window, set)
 }
 
 // The answer of a call that writes as many words or bytes as its first number says: list is a count with such an output.

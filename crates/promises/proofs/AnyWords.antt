@@ -8,7 +8,7 @@ use lib.ListN.{length, getD, drop}
 use Rattle.measures.specs.declared.sizes.Sizes.{Sizes}
 use Rattle.measures.specs.Sizes.{sizesOf, storeWords}
 use Rattle.image.specs.Held.{mostBytes}
-use Rattle.promises.specs.Answer.{Answer, refused}
+use Rattle.promises.specs.Answer.{Answer, refused, accepted}
 use Rattle.promises.specs.Effect.{Effect, effect, Returns, passed, stopped}
 use Rattle.promises.specs.Walk.{Accepts}
 use Rattle.promises.specs.Change.{Done, Disabled}
@@ -96,6 +96,9 @@ module _ {first second : ℕ} {a : Answer} where
   refused-bounded : {n : ℕ} → a ≡ refused n → Bounded first second a
   refused-bounded {n} i = record { zeros = λ z. zeros-beside n i; first-to = omega (arith, first-of i); second-to = omega (arith, second-of i) }
 
+  none-bounded : a ≡ accepted 0 0 → Bounded first second a
+  none-bounded i = record { zeros = λ z. absurd (z (refusal-of i)); first-to = omega (arith, first-of i); second-to = omega (arith, second-of i) }
+
   walk-bounded : {before after : List ℕ} → Accepts first second (effect a before after) ⊎ ((a ≡ refused 13) × (after ≡ before)) → Bounded first second a
   walk-bounded ends = ⊎-elim (λ b. record { zeros = λ z. absurd (z (b .accepted)); first-to = b .first-to; second-to = b .second-to }) (λ d. refused-bounded (d .0)) ends
 
@@ -103,7 +106,7 @@ pub ask-bounded : {words : List ℕ} {x y : ℕ} {a : Answer} → AskMeets words
 ask-bounded m = ⊎-elim (λ c. refused-bounded (c .returns .is)) (λ w. walk-bounded (w .ends)) (pixel-ends m)
 
 pub count-bounded : {words : List ℕ} {x0 y0 x1 y1 : ℕ} {a : Answer} → CountMeets words x0 y0 x1 y1 a → Bounded (sizesOf words .most) (slotsIn words) a
-count-bounded m = ⊎-elim (λ c. refused-bounded (c .returns .is)) (λ w. walk-bounded (w .ends)) (window-ends m)
+count-bounded m = ⊎-elim (λ c. refused-bounded (c .returns .is)) (⊎-elim (λ r. none-bounded (r .is)) (λ w. walk-bounded (w .ends))) (window-ends m)
 
 -- what list and save answer, and leave of the output
 pub record OutputLeft (first second : ℕ) (e : Effect) : Type 0 where
@@ -134,6 +137,19 @@ module _ {first second : ℕ} {e : Effect} where
         unchanged = λ z d. c .returns .same;
         long = ap length (c .returns .same);
       }
+
+  none-output : Returns (accepted 0 0) e → OutputLeft first second e
+  none-output r = record {
+    zeros = λ z s. first-of (r .is);
+    no-second = λ z. second-of (r .is);
+    first-to = omega (arith, first-of (r .is));
+    second-to = omega (arith, second-of (r .is));
+    room = λ z. omega (arith, first-of (r .is));
+    rest = λ z. ap (drop (e .answer .first)) (r .same);
+    lacks = λ s. absurd (omega (arith, s, number-is r));
+    unchanged = λ z d. r .same;
+    long = ap length (r .same);
+  }
 
   walk-output : WrittenOrShort first second e ⊎ ((e .answer ≡ refused 13) × SameLength e) → OutputLeft first second e
   walk-output (inl (inl w)) = record {
@@ -172,7 +188,7 @@ module _ {first second : ℕ} {e : Effect} where
 
 module _ {words before after : List ℕ} {a : Answer} where
   pub list-leaves : {x0 y0 x1 y1 : ℕ} → ListMeets words x0 y0 x1 y1 before after a → OutputLeft (sizesOf words .most) (slotsIn words) (effect a before after)
-  list-leaves m = ⊎-elim check-output (λ w. walk-output (w .ends)) (window-ends m)
+  list-leaves m = ⊎-elim check-output (⊎-elim none-output (λ w. walk-output (w .ends))) (window-ends m)
 
   pub save-leaves : SaveMeets words before after a → OutputLeft (mostBytes words) 0 (effect a before after)
   save-leaves m = ⊎-elim check-output (λ w. walk-output (w .ends)) (refused-or (omega arith) (omega arith) (omega arith) m)

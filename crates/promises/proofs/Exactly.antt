@@ -8,8 +8,10 @@ use lib.ListN.{length}
 use Rattle.pktree.specs.Lists.{Every}
 use Rattle.pktree.specs.Panel.{OnPanel}
 use Rattle.pktree.specs.PixelSet.{Ascending, PixelSet}
-use Rattle.measures.specs.Sizes.{sizesOf, storeWords, ValidSizes, UsableStore}
-use Rattle.promises.specs.Effect.{HasPixelOn, CornersOn, Effect, effect, passed, stopped, OfPixel, OfWindow, InOrder}
+use Rattle.pktree.specs.Window.{Window, Ordered}
+use Rattle.pktree.proofs.Parts.{WhollyOff, empty-exactly}
+use Rattle.measures.specs.Sizes.{panelOf, sizesOf, storeWords, ValidSizes, UsableStore}
+use Rattle.promises.specs.Effect.{HasPixelOn, Effect, effect, passed, stopped, OfPixel, OfWindow}
 use Rattle.image.specs.Judged.{WellFormed, FitsRegister, ImageOfSome}
 use Rattle.image.specs.Held.{HasImage, SomeHasImage, panelIn, mostIn}
 use Rattle.image.proofs.Accepted.{image-well-formed, image-fits, image-of-some, one-set}
@@ -17,10 +19,10 @@ use Rattle.promises.specs.Answer.{Answer, accepted, refused}
 use Rattle.promises.specs.Walk.{Walks}
 use Rattle.promises.specs.Change.{Becomes}
 use Rattle.promises.specs.Output.{WrittenOrShort}
-use Rattle.promises.specs.Calls.{asked, MakeMeets, MarkMeets, ClearMeets, Loaded, LoadMeets, FillMeets, AskMeets, CountMeets, ListMeets, SaveMeets, CheckMeets}
+use Rattle.promises.specs.Calls.{asked, MakeMeets, MarkMeets, ClearMeets, Loaded, LoadMeets, FillMeets, AskMeets, windowGiven, CountMeets, ListMeets, SaveMeets, CheckMeets}
 use Rattle.promises.proofs.Answers.{refusal-of, first-of}
 use Rattle.promises.proofs.Holding.{Holding, now-holding}
-use Rattle.promises.proofs.Ladder.{number-is, where-holds, never, exactly, then-exactly, accepted-passed, FourChecks, four-checks}
+use Rattle.promises.proofs.Ladder.{number-is, where-holds, where-fails, never, exactly, then-exactly, accepted-passed, FourChecks, four-checks}
 use Rattle.store.specs.Sound.{IsSound}
 
 -- a number of the walk, of none of the checks before it
@@ -46,16 +48,17 @@ pub record PixelRefusals (words : List ℕ) (x y : ℕ) (a : Answer) : Type 0 wh
   pub unusable : (a .refusal ≡ 3) ↔ (UsableStore words → ⊥)
   pub off-panel : (a .refusal ≡ 4) ↔ (UsableStore words × (HasPixelOn words x y → ⊥))
 
--- 3, 4 and 8 of count and list
-pub record WindowRefusals (words : List ℕ) (x0 y0 x1 y1 : ℕ) (a : Answer) : Type 0 where
+-- 3 and 8 of count and list; 02, P3: 4 never comes, and a window wholly off the panel is answered before a slot is looked at
+pub record WindowRefusals (words : List ℕ) (window : Window) (a : Answer) : Type 0 where
   pub unusable : (a .refusal ≡ 3) ↔ (UsableStore words → ⊥)
-  pub off-panel : (a .refusal ≡ 4) ↔ (UsableStore words × (CornersOn words x0 y0 x1 y1 → ⊥))
-  pub reversed : (a .refusal ≡ 8) ↔ (UsableStore words × (CornersOn words x0 y0 x1 y1 × (InOrder x0 y0 x1 y1 → ⊥)))
+  pub never-off-panel : a .refusal ≡ 4 → ⊥
+  pub reversed : (a .refusal ≡ 8) ↔ (UsableStore words × (Ordered window → ⊥))
+  pub wholly-off : UsableStore words → Ordered window → WhollyOff (panelOf (sizesOf words)) window → a ≡ accepted 0 0
 
 -- 01: x0 > x1 or y0 > y1
-pub not-in-order : {x0 y0 x1 y1 : ℕ} → (x1 < x0) ⊎ (y1 < y0) → InOrder x0 y0 x1 y1 → ⊥
-not-in-order (inl x) ordered = omega (arith, x, ordered .0)
-not-in-order (inr y) ordered = omega (arith, y, ordered .1)
+pub not-in-order : {x0 y0 x1 y1 : ℕ} → (x1 < x0) ⊎ (y1 < y0) → Ordered (windowGiven x0 y0 x1 y1) → ⊥
+not-in-order (inl x) ordered = omega (arith, x, ordered .x-ordered)
+not-in-order (inr y) ordered = omega (arith, y, ordered .y-ordered)
 
 module _ {words : List ℕ} {rest : Effect → Type 0} {e : Effect} (number : rest e → OfWalk (e .answer .refusal)) where
   pixel-refusals : {x y : ℕ} → OfPixel words x y rest e → PixelRefusals words x y (e .answer)
@@ -64,11 +67,12 @@ module _ {words : List ℕ} {rest : Effect → Type 0} {e : Effect} (number : re
     off-panel = then-exactly (omega arith) (exactly (λ r. number r .1)) m;
   }
 
-  window-refusals : {x0 y0 x1 y1 : ℕ} → OfWindow words x0 y0 x1 y1 rest e → WindowRefusals words x0 y0 x1 y1 (e .answer)
-  window-refusals m = record {
+  window-refusals : {window : Window} → OfWindow words window rest e → WindowRefusals words window (e .answer)
+  window-refusals {window} m = record {
     unusable = exactly (never (omega arith) (never (omega arith) (λ r. number r .0))) m;
-    off-panel = then-exactly (omega arith) (exactly (never (omega arith) (λ r. number r .1))) m;
-    reversed = then-exactly (omega arith) (then-exactly (omega arith) (exactly (λ r. number r .2))) m;
+    never-off-panel = never (omega arith) (never (omega arith) (never (omega arith) (λ r. number r .1))) m;
+    reversed = then-exactly (omega arith) (exactly (never (omega arith) (λ r. number r .2))) m;
+    wholly-off = λ u o off. where-fails (where-holds (where-holds m u) o) (empty-exactly (panelOf (sizesOf words)) window .1 off) .is;
   }
 
 module _ {before after : List ℕ} {x y : ℕ} {a : Answer} where
@@ -90,10 +94,10 @@ pub ask-refusals : {words : List ℕ} {x y : ℕ} {a : Answer} → AskMeets word
 ask-refusals m = pixel-refusals (walk-number (λ b. accepted-number (b .accepted))) m
 
 module _ {words : List ℕ} {x0 y0 x1 y1 : ℕ} {a : Answer} where
-  pub count-refusals : CountMeets words x0 y0 x1 y1 a → WindowRefusals words x0 y0 x1 y1 a
+  pub count-refusals : CountMeets words x0 y0 x1 y1 a → WindowRefusals words (windowGiven x0 y0 x1 y1) a
   count-refusals m = window-refusals (walk-number (λ b. accepted-number (b .accepted))) m
 
-  pub list-refusals : {before after : List ℕ} → ListMeets words x0 y0 x1 y1 before after a → WindowRefusals words x0 y0 x1 y1 a
+  pub list-refusals : {before after : List ℕ} → ListMeets words x0 y0 x1 y1 before after a → WindowRefusals words (windowGiven x0 y0 x1 y1) a
   list-refusals m = window-refusals (walk-number output-number) m
 
 pub save-unusable : {words before after : List ℕ} {a : Answer} → SaveMeets words before after a → (a .refusal ≡ 3) ↔ (UsableStore words → ⊥)

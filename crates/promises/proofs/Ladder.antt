@@ -4,7 +4,8 @@ use native.Mathlib.Omega.{arith}
 use mathlib.Core.Path.{_≡_, sym, _∙_}
 use mathlib.Core.Logic.{_↔_, _⊎_, inl, inr}
 use mathlib.Core.List.{List}
-use Rattle.promises.specs.Answer.{Answer, refused}
+use Rattle.pktree.specs.Window.{Window}
+use Rattle.promises.specs.Answer.{Answer, refused, accepted}
 use Rattle.promises.specs.Effect.{Effect, Returns, _else_then_, passed, stopped, OfPixel, OfWindow}
 use Rattle.promises.proofs.Answers.{refusal-of}
 
@@ -89,7 +90,9 @@ module _ {e : Effect} where
     pixel-ends (stopped f r) = inl (by-check 3 (omega arith) (omega arith) (omega arith) r)
     pixel-ends (passed u m) = refused-or (omega arith) (omega arith) (omega arith) m
 
-    pub window-ends : {x0 y0 x1 y1 : ℕ} → OfWindow words x0 y0 x1 y1 rest e → CheckRefused e ⊎ rest e
+    -- or the window is wholly off the panel
+    pub window-ends : {window : Window} → OfWindow words window rest e → CheckRefused e ⊎ Returns (accepted 0 0) e ⊎ rest e
     window-ends (stopped f r) = inl (by-check 3 (omega arith) (omega arith) (omega arith) r)
-    window-ends (passed u (stopped f r)) = inl (by-check 4 (omega arith) (omega arith) (omega arith) r)
-    window-ends (passed u (passed on m)) = refused-or (omega arith) (omega arith) (omega arith) m
+    window-ends (passed u (stopped f r)) = inl (by-check 8 (omega arith) (omega arith) (omega arith) r)
+    window-ends (passed u (passed o (stopped f r))) = inr (inl r)
+    window-ends (passed u (passed o (passed p m))) = inr (inr m)

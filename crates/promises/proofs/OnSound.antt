@@ -1,22 +1,24 @@
 -- What each call answers and leaves by equation, on a store that holds this set; and 13 on a spoiled one.
 use Prim.Native.Nat.{ℕ, _≤_, _<_}
 use native.Mathlib.Omega.{arith}
-use mathlib.Core.Path.{_≡_}
+use mathlib.Core.Path.{_≡_, ap, _∙_}
 use mathlib.Core.Bool.{true, false}
 use mathlib.Core.List.{List, _++_}
 use lib.ListN.{length, drop}
 use Rattle.morton.specs.Code.{codeOf}
 use Rattle.pktree.specs.PixelSet.{member, added, removed}
 use Rattle.pktree.specs.Tree.{tree}
-use Rattle.pktree.specs.Window.{found, openedByPixel, openedByWindow}
+use Rattle.pktree.specs.Window.{Window, Ordered, found, openedByPixel}
 use Rattle.pktree.specs.Image.{image}
 use Rattle.pktree.proofs.Absurd.{zero-is-not-one}
+use Rattle.pktree.proofs.Parts.{part-begins, none-found, none-opened}
 use Rattle.measures.specs.Sizes.{panelOf, sizesOf, UsableStore}
 use Rattle.store.specs.Sound.{Holds}
-use Rattle.promises.specs.Effect.{HasPixelOn, CornersOn, effect, Returns, InOrder}
+use Rattle.promises.specs.Effect.{HasPixelOn, effect, Returns, partIn, OfPart, passed, stopped}
 use Rattle.promises.specs.Answer.{Answer, accepted, refused, yesNo}
 use Rattle.promises.specs.Walk.{Spoiled}
-use Rattle.promises.specs.Calls.{MarkMeets, ClearMeets, AskMeets, windowGiven, CountMeets, ListMeets, SaveMeets}
+use Rattle.promises.specs.Output.{WritesOrShort}
+use Rattle.promises.specs.Calls.{MarkMeets, ClearMeets, AskMeets, windowGiven, foundAndOpened, Counts, CountMeets, Lists, ListMeets, SaveMeets}
 use Rattle.promises.proofs.Answers.{refusal-of, first-of, second-of}
 use Rattle.promises.proofs.Holding.{Holding, now-holding}
 use Rattle.promises.proofs.Ladder.{where-holds, where-fails}
@@ -39,26 +41,42 @@ module _ {before set : List ℕ} (holds : Holds before set) {after : List ℕ} {
     pub clear-removes : member set (codeOf x y) ≡ true → Holding (sizesOf before) (removed (codeOf x y) set) a after
     clear-removes m = now-holding (where-holds (where-holds (where-holds meets (holds .sound .usable)) on .sound set holds) m)
 
+-- where the part is empty, 0 and 0 are its numbers too
+none-there : (words : List ℕ) {part : Window} (set : List ℕ) → (Ordered part → ⊥) → accepted 0 0 ≡ foundAndOpened words part set
+none-there words set none = rw (none-found none set, none-opened none (tree (panelOf (sizesOf words)) (member set)))
+
 module _ {words set : List ℕ} (holds : Holds words set) {a : Answer} where
   pub ask-answers : {x y : ℕ} → AskMeets words x y a → HasPixelOn words x y
       → a ≡ accepted (yesNo (member set (codeOf x y))) (openedByPixel (codeOf x y) (tree (panelOf (sizesOf words)) (member set)))
   ask-answers m on = where-holds (where-holds m (holds .sound .usable)) on .sound set holds .is
 
-  module _ {x0 y0 x1 y1 : ℕ} (on : CornersOn words x0 y0 x1 y1) (ordered : InOrder x0 y0 x1 y1) where
-    pub count-answers : CountMeets words x0 y0 x1 y1 a
-        → a ≡ accepted (length (found (windowGiven x0 y0 x1 y1) set)) (openedByWindow (windowGiven x0 y0 x1 y1) (tree (panelOf (sizesOf words)) (member set)))
-    count-answers m = where-holds (where-holds (where-holds m (holds .sound .usable)) on) ordered .sound set holds .is
+  -- 02, P3: those of the part on the panel, also where it is empty
+  module _ {x0 y0 x1 y1 : ℕ} (ordered : Ordered (windowGiven x0 y0 x1 y1)) where
+    pub count-answers : CountMeets words x0 y0 x1 y1 a → a ≡ foundAndOpened words (partIn words (windowGiven x0 y0 x1 y1)) set
+    count-answers m = go (where-holds (where-holds m (holds .sound .usable)) ordered)
+      where
+        go : OfPart words (windowGiven x0 y0 x1 y1) (Counts words (partIn words (windowGiven x0 y0 x1 y1))) (effect a words words) → a ≡ foundAndOpened words (partIn words (windowGiven x0 y0 x1 y1)) set
+        go (stopped none r) = r .is ∙ none-there words set none
+        go (passed some w) = w .sound set holds .is
 
     module _ {before after : List ℕ} (meets : ListMeets words x0 y0 x1 y1 before after a) where
-      pub list-writes : length (found (windowGiven x0 y0 x1 y1) set) ≤ length before
-          → (a ≡ accepted (length (found (windowGiven x0 y0 x1 y1) set)) (openedByWindow (windowGiven x0 y0 x1 y1) (tree (panelOf (sizesOf words)) (member set))))
-          × (after ≡ found (windowGiven x0 y0 x1 y1) set ++ drop (length (found (windowGiven x0 y0 x1 y1) set)) before)
-      list-writes room = let w = where-holds (where-holds (where-holds (where-holds meets (holds .sound .usable)) on) ordered .sound set holds) room in (w .is, w .wrote)
+      list-answers : WritesOrShort (foundAndOpened words (partIn words (windowGiven x0 y0 x1 y1)) set) (found (partIn words (windowGiven x0 y0 x1 y1)) set) (effect a before after)
+      list-answers = go (where-holds (where-holds meets (holds .sound .usable)) ordered)
+        where
+          go : OfPart words (windowGiven x0 y0 x1 y1) (Lists words (partIn words (windowGiven x0 y0 x1 y1))) (effect a before after)
+              → WritesOrShort (foundAndOpened words (partIn words (windowGiven x0 y0 x1 y1)) set) (found (partIn words (windowGiven x0 y0 x1 y1)) set) (effect a before after)
+          go (stopped none r) = let e = none-found none set in
+              passed (omega (arith, ap length e)) (record { is = r .is ∙ none-there words set none; wrote = r .same ∙ rw e })
+          go (passed some w) = w .sound set holds
 
-      pub list-short : length before < length (found (windowGiven x0 y0 x1 y1) set)
-          → (a .refusal ≡ 9) × (a .first ≡ length (found (windowGiven x0 y0 x1 y1) set)) × (a .second ≡ 0) × (after ≡ before)
+      pub list-writes : length (found (partIn words (windowGiven x0 y0 x1 y1)) set) ≤ length before
+          → (a ≡ foundAndOpened words (partIn words (windowGiven x0 y0 x1 y1)) set) × (after ≡ found (partIn words (windowGiven x0 y0 x1 y1)) set ++ drop (length (found (partIn words (windowGiven x0 y0 x1 y1)) set)) before)
+      list-writes room = let w = where-holds list-answers room in (w .is, w .wrote)
+
+      pub list-short : length before < length (found (partIn words (windowGiven x0 y0 x1 y1)) set)
+          → (a .refusal ≡ 9) × (a .first ≡ length (found (partIn words (windowGiven x0 y0 x1 y1)) set)) × (a .second ≡ 0) × (after ≡ before)
       list-short lacks =
-          let r = where-fails (where-holds (where-holds (where-holds meets (holds .sound .usable)) on) ordered .sound set holds) (λ room. omega (arith, room, lacks)) in
+          let r = where-fails list-answers (λ room. omega (arith, room, lacks)) in
           (refusal-of (r .is), first-of (r .is), second-of (r .is), r .same)
 
   module _ {before after : List ℕ} (meets : SaveMeets words before after a) where
@@ -84,12 +102,13 @@ module _ {words : List ℕ} (usable : UsableStore words) (spoiled : Spoiled word
     pub ask-spoiled : AskMeets words x y a → a ≡ refused 13
     ask-spoiled m = where-holds (where-holds m usable) on .spoiled spoiled
 
-  module _ {x0 y0 x1 y1 : ℕ} (on : CornersOn words x0 y0 x1 y1) (ordered : InOrder x0 y0 x1 y1) where
+  -- where the window is not wholly off the panel
+  module _ {x0 y0 x1 y1 : ℕ} (some : Ordered (partIn words (windowGiven x0 y0 x1 y1))) where
     pub count-spoiled : CountMeets words x0 y0 x1 y1 a → a ≡ refused 13
-    count-spoiled m = where-holds (where-holds (where-holds m usable) on) ordered .spoiled spoiled
+    count-spoiled m = where-holds (where-holds (where-holds m usable) (part-begins (panelOf (sizesOf words)) _ some .ordered)) some .spoiled spoiled
 
     pub list-spoiled : {before after : List ℕ} → ListMeets words x0 y0 x1 y1 before after a → a ≡ refused 13
-    list-spoiled m = where-holds (where-holds (where-holds m usable) on) ordered .spoiled spoiled
+    list-spoiled m = where-holds (where-holds (where-holds m usable) (part-begins (panelOf (sizesOf words)) _ some .ordered)) some .spoiled spoiled
 
   pub save-spoiled : {before after : List ℕ} → SaveMeets words before after a → a ≡ refused 13
   save-spoiled m = where-holds m usable .spoiled spoiled

@@ -10,13 +10,13 @@ use Rattle.pktree.specs.Lists.{select}
 use Rattle.pktree.specs.PixelSet.{member, Ascending}
 use Rattle.pktree.specs.Elements.{unlabelled}
 use Rattle.pktree.specs.Tree.{tree, pixels}
-use Rattle.pktree.specs.Window.{Window, inWindow, found}
+use Rattle.pktree.specs.Window.{Window, inWindow, Ordered, found}
 use Rattle.pktree.proofs.Pixels.{ascending-lower, pixels-of-tree-are-set}
 use Rattle.pktree.proofs.Unlabelled.{pixels-unlabelled}
 use Rattle.measures.specs.Sizes.{panelOf, sizesOf}
 use Rattle.store.specs.Sound.{Holds}
 use Rattle.promises.specs.Answer.{Answer}
-use Rattle.promises.specs.Effect.{CornersOn, InOrder}
+use Rattle.promises.specs.Effect.{partIn}
 use Rattle.promises.specs.Calls.{windowGiven, ListMeets}
 use Rattle.promises.proofs.Answers.{first-of}
 use Rattle.promises.proofs.OnSound.{list-writes}
@@ -37,12 +37,12 @@ held-ascends {words} {set} h =
     h .sound .is-tree ∙ ap (λ (l : List ℕ). tree (panelOf (sizesOf words)) (member l)) (h .set-is) in
     subst (Ascending 0) (ap pixels (sym is) ∙ pixels-unlabelled (h .placed) ∙ h .set-is) (pixels-of-tree-are-set (panelOf (sizesOf words)) (member set) .ascending)
 
-pub list-rises : {words set : List ℕ} → Holds words set → {a : Answer} {x0 y0 x1 y1 : ℕ} → CornersOn words x0 y0 x1 y1 → InOrder x0 y0 x1 y1 → {before after : List ℕ}
-    → ListMeets words x0 y0 x1 y1 before after a → length (found (windowGiven x0 y0 x1 y1) set) ≤ length before → Ascending 0 (take (a .first) after)
-list-rises {set = set} holds {a} {x0} {y0} {x1} {y1} on ordered {before} {after} meets room =
-    let window : Window = windowGiven x0 y0 x1 y1 in
-    let w = list-writes holds on ordered meets room in
-    let written : take (a .first) after ≡ found window set =
-    ap (λ (n : ℕ). take n after) (first-of (w .0)) ∙ ap (take (length (found window set))) (w .1)
-    ∙ take-at (found window set) (drop (length (found window set)) before) (length (found window set)) refl in
-    subst (Ascending 0) (sym written) (select-ascends (inWindow window) 0 set (held-ascends holds))
+pub list-rises : {words set : List ℕ} → Holds words set → {a : Answer} {x0 y0 x1 y1 : ℕ} → Ordered (windowGiven x0 y0 x1 y1) → {before after : List ℕ}
+    → ListMeets words x0 y0 x1 y1 before after a → length (found (partIn words (windowGiven x0 y0 x1 y1)) set) ≤ length before → Ascending 0 (take (a .first) after)
+list-rises {words} {set} holds {a} {x0} {y0} {x1} {y1} ordered {before} {after} meets room =
+    let part : Window = partIn words (windowGiven x0 y0 x1 y1) in
+    let w = list-writes holds ordered meets room in
+    let written : take (a .first) after ≡ found part set =
+    ap (λ (n : ℕ). take n after) (first-of (w .0)) ∙ ap (take (length (found part set))) (w .1)
+    ∙ take-at (found part set) (drop (length (found part set)) before) (length (found part set)) refl in
+    subst (Ascending 0) (sym written) (select-ascends (inWindow part) 0 set (held-ascends holds))

@@ -1,9 +1,10 @@
 -- 01 "Who is refused, and how": checks run in ascending number; every refusal but 13 changes nothing.
-use Prim.Native.Nat.{ℕ, _≤_}
+use Prim.Native.Nat.{ℕ}
 use mathlib.Core.Path.{_≡_}
 use mathlib.Core.List.{List}
-use Rattle.promises.specs.Answer.{Answer, refused}
+use Rattle.promises.specs.Answer.{Answer, refused, accepted}
 use Rattle.pktree.specs.Panel.{HasPixel}
+use Rattle.pktree.specs.Window.{Window, Ordered, partOn}
 use Rattle.measures.specs.Sizes.{UsableStore, panelOf, sizesOf}
 
 -- what a call answers, and what it was lent for writing, before and after: the store, or the output of list and save
@@ -33,17 +34,18 @@ pub data _else_then_ (P : Type 0) (answer : Answer) (rest : Effect → Type 0) (
 abbrev pub HasPixelOn : List ℕ → ℕ → ℕ → Type 0
 HasPixelOn words x y = HasPixel (panelOf (sizesOf words)) x y
 
--- both corners are on the store's panel
-abbrev pub CornersOn : List ℕ → ℕ → ℕ → ℕ → ℕ → Type 0
-CornersOn words x0 y0 x1 y1 = HasPixelOn words x0 y0 × HasPixelOn words x1 y1
+-- the part of the window on the store's panel
+abbrev pub partIn : List ℕ → Window → Window
+partIn words window = partOn (panelOf (sizesOf words)) window
 
--- the checks that ask, mark and clear share, and those that count and list share
+-- the checks that ask, mark and clear share
 abbrev pub OfPixel : List ℕ → ℕ → ℕ → (Effect → Type 0) → Effect → Type 0
 OfPixel words x y rest = UsableStore words else refused 3 then HasPixelOn words x y else refused 4 then rest
 
-abbrev pub InOrder : ℕ → ℕ → ℕ → ℕ → Type 0
-InOrder x0 y0 x1 y1 = (x0 ≤ x1) × (y0 ≤ y1)
+-- 02, P3: where the window is wholly off the panel, nothing is found and no block opened, whatever the slots say; else the rest is of its part
+abbrev pub OfPart : List ℕ → Window → (Effect → Type 0) → Effect → Type 0
+OfPart words window rest = Ordered (partIn words window) else accepted 0 0 then rest
 
-abbrev pub OfWindow : List ℕ → ℕ → ℕ → ℕ → ℕ → (Effect → Type 0) → Effect → Type 0
-OfWindow words x0 y0 x1 y1 rest =
-    UsableStore words else refused 3 then CornersOn words x0 y0 x1 y1 else refused 4 then InOrder x0 y0 x1 y1 else refused 8 then rest
+-- the checks that count and list share
+abbrev pub OfWindow : List ℕ → Window → (Effect → Type 0) → Effect → Type 0
+OfWindow words window rest = UsableStore words else refused 3 then Ordered window else refused 8 then OfPart words window rest

@@ -5,11 +5,11 @@ use mathlib.Core.Bool.{Bool, true, false}
 use mathlib.Core.List.{List, [], _∷_}
 use Rattle.pktree.specs.Elements.{empty, pixel, block, unlabelled}
 use Rattle.pktree.specs.Tree.{blockOf, pixels}
-use Rattle.pktree.specs.Window.{Window, inWindow, found, sharesPixel}
+use Rattle.pktree.specs.Window.{Window, inWindow, Ordered, found, sharesPixel}
 use Rattle.pktree.proofs.Unlabelled.{local-unlabelled}
 use Rattle.store.specs.Placed.{Placed}
 use Rattle.store.proofs.BlockView.{ChildView}
-use Rattle.query.specs.Corners.{cornersMeet, Ordered}
+use Rattle.query.specs.Corners.{cornersMeet}
 use Rattle.query.proofs.WindowTests.{corners-decide}
 use Rattle.query.proofs.WindowParts.{NothingSeen, OneOpened, block-apart, block-opened}
 

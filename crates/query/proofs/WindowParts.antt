@@ -9,6 +9,7 @@ use Rattle.pktree.specs.Lists.{select}
 use Rattle.pktree.specs.Elements.{Forest, empty, pixel, block, _⧺_, blockAt}
 use Rattle.pktree.specs.Tree.{blockOf, blocks, pixels}
 use Rattle.pktree.specs.Window.{Window, inWindow, found, sharesPixel, openedByWindow}
+use Rattle.pktree.proofs.Absurd.{false-unless}
 use Rattle.pktree.proofs.Arranged.{Arranged, LocallyRight, arranged-le}
 use Rattle.pktree.proofs.Forests.{blockCount, length-blocks, pixels-join, blocks-join}
 use Rattle.pktree.proofs.Windows.{shares-pixel-exactly}
@@ -52,10 +53,6 @@ opened-join window f g =
 -- no code of this run is in the window
 abbrev Outside : Window → ℕ → ℕ → Type 0
 Outside window from to = (code : ℕ) → from ≤ code → code < to → inWindow window code ≡ true → ⊥
-
-false-unless : (b : Bool) → (b ≡ true → ⊥) → b ≡ false
-false-unless true h = absurd (h refl)
-false-unless false h = refl
 
 -- then nothing that lies in the run is found or opened
 nothing-outside : (window : Window) (k n from to : ℕ) (f : Forest) → Arranged k n from to f → Outside window from to

@@ -12,11 +12,11 @@ use Rattle.morton.specs.Code.{xOf, yOf}
 use Rattle.pktree.specs.Panel.{Panel, Valid, Aligned, Block}
 use Rattle.pktree.specs.Elements.{Forest}
 use Rattle.pktree.specs.Tree.{blockOf}
-use Rattle.pktree.specs.Window.{Window, sharesPixel}
+use Rattle.pktree.specs.Window.{Window, Ordered, sharesPixel}
 use Rattle.pktree.proofs.Alignment.{pow-pos, blockCode-aligned, blockCode-le, blockCode-lt}
 use Rattle.pktree.proofs.Windows.{within-multiple, corner-of-aligned, block-is-square, corners-meet-exactly}
 use Rattle.query.specs.declared.window.Corners.{Corners}
-use Rattle.query.specs.Corners.{Ordered, cornersMeet, PixelTested, BlockTested}
+use Rattle.query.specs.Corners.{cornersMeet, PixelTested, BlockTested}
 
 -- two tests of one statement are the same test
 same-test : {P : Type 0} (a b : Bool) → (a ≡ true) ↔ P → (b ≡ true) ↔ P → a ≡ b

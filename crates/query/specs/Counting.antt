@@ -3,12 +3,11 @@ use Prim.Native.Nat.{ℕ, _+_, _≤_, _<_}
 use mathlib.Core.Path.{_≡_}
 use mathlib.Core.List.{List}
 use lib.ListN.{length}
-use Rattle.pktree.specs.Panel.{Panel, HasPixel}
 use Rattle.pktree.specs.Elements.{Forest, empty, pixel}
 use Rattle.pktree.specs.Tree.{pixels}
 use Rattle.pktree.specs.Window as tree
-use Rattle.pktree.specs.Window.{found, openedByWindow}
-use Rattle.measures.specs.Sizes.{panelOf, sizesOf, largestMost, UsableStore}
+use Rattle.pktree.specs.Window.{found, Ordered, openedByWindow}
+use Rattle.measures.specs.Sizes.{largestMost}
 use Rattle.measures.specs.Layout.{moreThanSlots}
 use Rattle.store.specs.Opening.{CannotOpen}
 use Rattle.walks.proofs.Walks.{InsideWalked}
@@ -17,19 +16,13 @@ use Rattle.query.specs.declared.count.Sum.{Sum}
 use Rattle.answers.specs.declared.Refusal.the-variants.{StoreDamaged}
 use Rattle.answers.specs.declared.Counting.{Counting}
 use Rattle.answers.specs.declared.Counting.the-variants.{Found, Refused}
-use Rattle.query.specs.declared.window.Window.{Window}
-use Rattle.measures.specs.declared.sizes.Sizes.{Sizes}
 use Rattle.measures.specs.declared.sizes.Layout.{Layout}
 use Rattle.query.specs.declared.window.Corners.{Corners}
-use Rattle.query.specs.Corners.{windowBetween, windowOf, HasCodes, Ordered}
+use Rattle.query.specs.Corners.{windowBetween}
 
 -- how many pixels of some elements a window has
 abbrev pub foundIn : tree.Window → Forest → ℕ
 foundIn window f = length (found window (pixels f))
-
--- the window begins on the panel, so that the root is opened; that it ends there too is not needed
-abbrev pub BeginsOnPanel : Panel → tree.Window → Type 0
-BeginsOnPanel panel window = HasPixel panel (window .x0) (window .y0)
 
 -- from the numbers s, a window walk over these elements comes to the numbers t: where there is room for what they add, as on a sound store
 pub record Counts (range : RangeQuery) (s : ℕ × ℕ) (f : Forest) (t : ℕ × ℕ) : Type 0 where
@@ -57,11 +50,3 @@ SumCase most layout sum (Refused refusal) = (refusal ≡ StoreDamaged) × (sum .
 
 pub record SumWithin (most : ℕ) (layout : Layout) (sum : Sum) (r : Counting) : Type 0 where
   pub case : SumCase most layout sum r
-
--- refusals 3, 4 and 8 do not apply; that the window begins on the panel suffices
-pub record CanCount (words : List ℕ) (sizes : Sizes) (window : Window) : Type 0 where
-  pub usable : UsableStore words
-  pub sizes-are : sizes ≡ sizesOf words
-  pub codes : HasCodes window
-  pub ordered : Ordered (windowOf window)
-  pub begins : BeginsOnPanel (panelOf (sizesOf words)) (windowOf window)

@@ -1,15 +1,17 @@
 ghost use mathlib.Core.Path.{_≡_};
-ghost use Rattle.query.specs.Counting.{tooMany, PixelCounted, BlockCounted, SumWithin, CanCount};
-ghost use Rattle.promises.specs.Effect.{effect};
+ghost use Rattle.query.specs.Counting.{tooMany, PixelCounted, BlockCounted, SumWithin};
+ghost use Rattle.measures.specs.Sizes.{UsableStore, sizesOf};
+ghost use Rattle.promises.specs.Effect.{effect, partIn, OfPart};
 ghost use Rattle.promises.specs.Calls as calls;
 ghost use Rattle.answers.specs.Answer.{countAnswer};
 ghost use Rattle.query.specs.Corners.{windowOf};
 ghost use Rattle.measures.specs.Layout.{LayoutFits};
 use crate::window::Corners;
+use crate::window::Part;
 use crate::window::Window;
-use crate::window::corners_of;
 use crate::window::has_pixel;
 use crate::window::meets;
+use crate::window::part_on;
 use answers::Counting;
 use answers::Refusal;
 use measures::sizes::Layout;
@@ -111,16 +113,19 @@ pub fn within(most: u32, layout: Layout, sum: Sum) -> Counting
     }
 }
 
-// 01's count, where refusals 3, 4 and 8 do not apply.
+// 01's count of the window's part on the panel, where refusal 3 does not apply.
 pub fn count(store: &[u32], sizes: Sizes, window: Window) -> Counting
-    requires { ⌜ CanCount (now store) sizes window ⌝ }
-    ensures { λ r. ⌜ calls.Counts (now (store .entry)) (windowOf window) (effect (countAnswer r) (now (store .entry)) (now (store .entry))) ⌝ }
+    requires { ⌜ UsableStore (now store) × (sizes ≡ sizesOf (now store)) ⌝ }
+    ensures { λ r. ⌜ OfPart (now (store .entry)) (windowOf window) (calls.Counts (now (store .entry)) (partIn (now (store .entry)) (windowOf window))) (effect (countAnswer r) (now (store .entry)) (now (store .entry))) ⌝ }
 {
-    let layout = layout_of(sizes);
-    let range = RangeQuery {
-        layout,
-        corners: corners_of(window),
+    let Part::Between(corners) = part_on(sizes, window) else {
+        return Counting::Found {
+            found: 0,
+            opened: 0,
+        };
     };
+    let layout = layout_of(sizes);
+    let range = RangeQuery { layout, corners };
     within(
         sizes.most,
         layout,

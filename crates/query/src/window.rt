@@ -1,4 +1,8 @@
-ghost use Rattle.query.specs.Corners.{HasCodes, CornersOf, PixelTested, BlockTested};
+ghost use Prim.Native.Nat.{min};
+ghost use mathlib.Core.Path.{_≡_};
+ghost use Rattle.measures.specs.Sizes.{ValidSizes, panelOf};
+ghost use Rattle.query.specs.Corners.{windowOf, PartOf, PixelTested, BlockTested};
+use measures::sizes::Sizes;
 
 // 01: both corners included.
 pub struct Window {
@@ -14,14 +18,39 @@ pub struct Corners {
     pub last: u32,
 }
 
-pub fn corners_of(window: Window) -> Corners
-    requires { ⌜ HasCodes window ⌝ }
-    ensures { λ r. ⌜ CornersOf window r ⌝ }
+// The part of a window on the panel.
+pub enum Part {
+    Between(Corners),
+    Empty,
+}
+
+fn lowered(coordinate: u32, last: u32) -> u32
+    ensures { λ r. ⌜ r ≡ min coordinate last ⌝ }
 {
-    Corners {
-        first: morton::code_of(window.x0, window.y0),
-        last: morton::code_of(window.x1, window.y1),
+    if last < coordinate {
+        return last;
     }
+    coordinate
+}
+
+// 02, P3: the far corner is lowered to the panel's last column and row, before codes are made: a coordinate above 65,535 has none.
+pub fn part_on(sizes: Sizes, window: Window) -> Part
+    requires { ⌜ ValidSizes sizes ⌝ }
+    ensures { λ r. ⌜ PartOf (panelOf sizes) (windowOf window) r ⌝ }
+{
+    let last = (1u32 << sizes.order) - 1;
+    let x1 = lowered(window.x1, last);
+    let y1 = lowered(window.y1, last);
+    if x1 < window.x0 {
+        return Part::Empty;
+    }
+    if y1 < window.y0 {
+        return Part::Empty;
+    }
+    Part::Between(Corners {
+        first: morton::code_of(window.x0, window.y0),
+        last: morton::code_of(x1, y1),
+    })
 }
 
 pub fn has_pixel(corners: Corners, code: u32) -> bool

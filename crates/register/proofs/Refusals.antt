@@ -1,10 +1,8 @@
 -- The checks that calls share, from what judges them.
-use Prim.Native.Nat.{ℕ, _^_, _≤_}
-use native.Mathlib.Omega.{arith}
+use Prim.Native.Nat.{ℕ}
 use mathlib.Core.Path.{_≡_, refl, ap, subst}
 use mathlib.Core.Logic.{inl, inr}
 use mathlib.Core.List.{List}
-use lib.Pow.{pow-mono}
 use Rattle.morton.specs.Code.{codeOf}
 use Rattle.pktree.specs.Panel.{OnPanel}
 use Rattle.measures.specs.declared.sizes.Sizes.{Sizes}
@@ -17,9 +15,9 @@ use Rattle.answers.specs.declared.judging.PixelJudged.the-variants as pixel
 use Rattle.answers.specs.declared.judging.WindowJudged.{WindowJudged}
 use Rattle.answers.specs.declared.judging.WindowJudged.the-variants as window
 use Rattle.answers.specs.Judged.{PixelGiven, PixelRefused, JudgedPixel, WindowGiven, WindowRefused, JudgedWindow}
-use Rattle.query.specs.Counting.{CanCount}
 use Rattle.promises.specs.Answer.{refused}
-use Rattle.promises.specs.Effect.{Effect, effect, Returns, _else_then_, passed, stopped, OfPixel, OfWindow}
+use Rattle.promises.specs.Effect.{Effect, effect, Returns, _else_then_, passed, stopped, OfPixel, OfPart, OfWindow}
+use Rattle.promises.specs.Calls.{windowGiven}
 use Rattle.answers.specs.Answer.{numberOf}
 
 -- a refusal before anything is written
@@ -58,34 +56,22 @@ module _ (words : List ℕ) (x y : ℕ) {judged : PixelJudged} where
     pub pixel-then : (rest : ℕ → Effect → Type 0) {e : Effect} → rest code e → OfPixel words x y (rest (codeOf x y)) e
     pixel-then rest {e} r = passed (given .usable) (passed (given .on-panel) (subst (λ (c : ℕ). rest c e) (given .code-is) r))
 
--- 3, 4 and 8
+-- 3 and 8
 module _ (words : List ℕ) (x0 y0 x1 y1 : ℕ) {judged : WindowJudged} where
   pub window-refused : {refusal : Refusal} {rest : Effect → Type 0} → judged ≡ window.Refused refusal → JudgedWindow words x0 y0 x1 y1 judged → (lent : List ℕ)
-      → OfWindow words x0 y0 x1 y1 rest (effect (refused (numberOf refusal)) lent lent)
+      → OfWindow words (windowGiven x0 y0 x1 y1) rest (effect (refused (numberOf refusal)) lent lent)
   window-refused {refusal} {rest} is j lent = go (rw is at j)
     where
-      go : WindowRefused words x0 y0 x1 y1 refusal → OfWindow words x0 y0 x1 y1 rest (effect (refused (numberOf refusal)) lent lent)
+      go : WindowRefused words x0 y0 x1 y1 refusal → OfWindow words (windowGiven x0 y0 x1 y1) rest (effect (refused (numberOf refusal)) lent lent)
       go (inl (e, fails)) = stopped fails (returns-number e)
-      go (inr (inl (e, u, off))) = passed u (stopped off (returns-number e))
-      go (inr (inr (e, u, on, fails))) = passed u (passed on (stopped fails (returns-number e)))
+      go (inr (e, u, fails)) = passed u (stopped fails (returns-number e))
 
   module _ {sizes : Sizes} (is : judged ≡ window.Window sizes) (j : JudgedWindow words x0 y0 x1 y1 judged) where
     window-given : WindowGiven words x0 y0 x1 y1 sizes
     window-given = rw is at j
 
-    -- corners on the panel have codes
-    pub can-count : CanCount words sizes (record { x0 = x0; y0 = y0; x1 = x1; y1 = y1 })
-    can-count =
-        let p = window-given in
-        let side : 2 ^ sizesOf words .order ≤ 2 ^ 16 = pow-mono (p .usable .valid .panel .order-to) in
-        let on = p .on-panel in
-        record {
-          usable = p .usable;
-          sizes-are = p .sizes-are;
-          codes = record { x0-below = omega (arith, on .0 .0); y0-below = omega (arith, on .0 .1); x1-below = omega (arith, on .1 .0); y1-below = omega (arith, on .1 .1) };
-          ordered = record { x-ordered = p .ordered .0; y-ordered = p .ordered .1 };
-          begins = p .on-panel .0;
-        }
+    pub window-of-usable : UsableStore words × (sizes ≡ sizesOf words)
+    window-of-usable = (window-given .usable, window-given .sizes-are)
 
-    pub window-then : {rest : Effect → Type 0} {e : Effect} → rest e → OfWindow words x0 y0 x1 y1 rest e
-    window-then r = passed (window-given .usable) (passed (window-given .on-panel) (passed (window-given .ordered) r))
+    pub window-then : {rest : Effect → Type 0} {e : Effect} → OfPart words (windowGiven x0 y0 x1 y1) rest e → OfWindow words (windowGiven x0 y0 x1 y1) rest e
+    window-then r = passed (window-given .usable) (passed (window-given .ordered) r)

@@ -10,7 +10,6 @@ use plain::calls::answered;
 use plain::images;
 use plain::images::Bytes;
 use plain::window::Window;
-use plain::window::around;
 use plain::window::is_list;
 
 // Both answers to a call, and whether what was written is right too.
@@ -141,8 +140,11 @@ fn clear(panel: Panel, window: Window, store: &mut [u32], set: &mut Set) -> Step
 
 fn ask(panel: Panel, window: Window, store: &[u32], set: &Set) -> Step {
     let got = numbers::of_asking(register::ask(store, window.x0, window.y0));
-    let pixel = around(window.x0, window.y0);
-    both(got, calls::count(panel, store.len(), pixel, set), true)
+    both(
+        got,
+        calls::ask(panel, store.len(), window.x0, window.y0, set),
+        true,
+    )
 }
 
 fn count(panel: Panel, window: Window, store: &[u32], set: &Set) -> Step {

@@ -1,6 +1,6 @@
--- `register::count` meets its contract: `judge_window` decides 3, 4 and 8, and the walk's answer is passed on.
+-- `register::count` meets its contract: `judge_window` decides 3 and 8, and the walk's answer is passed on.
 use borrow.Author.Needs.{needs}
-use Rattle.register.proofs.Refusals.{window-refused, can-count, window-then}
+use Rattle.register.proofs.Refusals.{window-refused, window-of-usable, window-then}
 use Rattle.register.proofs.count.Statement.{statement}
 use Rattle.register.proofs.count.Tie as tie
 
@@ -16,6 +16,6 @@ count-spec =
     (λ c κs. search needs)
     (λ c. search needs)
     (λ c. search needs)
-    (λ c κs. search (needs, can-count))
+    (λ c κs. let s = c .before in window-of-usable _ _ _ _ _ (s .sizes .given .1) (s .before .before .judge-window .ensures))
     (λ c. search (needs, window-refused))
     returns-2)

@@ -1,6 +1,6 @@
--- `register::list` meets its contract: `judge_window` decides 3, 4 and 8, and the walk's answer and output are passed on.
+-- `register::list` meets its contract: `judge_window` decides 3 and 8, and the walk's answer and output are passed on.
 use borrow.Author.Needs.{needs}
-use Rattle.register.proofs.Refusals.{window-refused, can-count, window-then}
+use Rattle.register.proofs.Refusals.{window-refused, window-of-usable, window-then}
 use Rattle.register.proofs.list.Statement.{statement}
 use Rattle.register.proofs.list.Tie as tie
 
@@ -17,7 +17,7 @@ list-spec =
     (λ c κs. search needs)
     (λ c. search needs)
     (λ c. search needs)
-    (λ c κs. search (needs, can-count))
+    (λ c κs. let s = c .before .before in window-of-usable _ _ _ _ _ (s .sizes .given .1) (s .before .before .judge-window .ensures))
     (λ c. search (needs, window-refused))
     (λ c. search needs)
     returns-2)

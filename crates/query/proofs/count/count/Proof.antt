@@ -1,7 +1,7 @@
--- `query::count::count` meets its contract: the walk starts at the root, below which all that 01 counts of the set is seen.
+-- `query::count::count` meets its contract: the walk starts at the root, below which all that 01 counts of the part is seen; an empty part is not walked.
 use borrow.Author.Needs.{needs}
 use Rattle.measures.proofs.Usable.{sizes-valid, layout-fits}
-use Rattle.query.proofs.RootCount.{count-answered}
+use Rattle.query.proofs.RootCount.{counted-part, none-counted}
 use Rattle.query.proofs.count.count.Statement.{statement}
 use Rattle.query.proofs.count.count.Tie as tie
 
@@ -10,7 +10,10 @@ count-spec =
     tie.close
     (tie.spec
     (λ c κs. search (needs, sizes-valid))
-    (λ c κs. search needs)
+    (λ c. search needs)
+    (λ c. search needs)
+    (λ c. search (needs, none-counted))
+    (λ c κs. search (needs, sizes-valid))
     (λ c κs. search (needs, layout-fits))
     (λ c κs. search needs)
-    (λ c. search (needs, count-answered)))
+    (λ c. search (needs, counted-part)))
