@@ -16,7 +16,7 @@
  *   - a pointer to as many words or bytes as the number beside it says, aligned for its type; null is allowed beside a length of 0;
  *   - a store and an image, codes or an output that do not overlap;
  *   - one thread at a time on a store. The library has no state of its own, so different stores need no lock;
- *   - 16 KiB of stack. This is tried, not proved: tests/stack_test.c runs every call on 16 KiB, and they use about 6 KiB.
+ *   - 16 KiB of stack. This is tried, not proved: tests/stack_test.c runs every call on 16 KiB, and they use about 9 KiB.
  * Given that, no call can fail in another way than by its refusal: no other argument and no content of the store is asked for
  * beforehand, no call reads or writes past what was lent, and each call ends.
  */

@@ -47,7 +47,7 @@ module _ {words : List ℕ} (s : SpoiltOf9 words) where
 
   -- no pixel of the panel has a coordinate of 8 or more
   off-panel : WhollyOff (panelOf (sizesOf words)) (windowGiven 8 0 4294967295 7)
-  off-panel = subst (λ (z : Sizes). WhollyOff (panelOf z) (windowGiven 8 0 4294967295 7)) (sym (s .sizes-are)) (λ x y on between. omega (arith, on .0, between .0))
+  off-panel = subst (λ (z : Sizes). WhollyOff (panelOf z) (windowGiven 8 0 4294967295 7)) (sym (s .sizes-are)) (λ x y on covered. omega (arith, on .0, covered .0))
 
   module _ {between after : List ℕ} {a b : Answer} {first second : ℕ} where
     -- 13, and 3 from the call after it

@@ -17,12 +17,12 @@ use Rattle.pktree.proofs.Absurd.{false-unless}
 use Rattle.pktree.proofs.Windows.{in-window-exactly, shares-pixel-exactly}
 
 -- the position lies between the window's corners
-abbrev pub Between : Window → ℕ → ℕ → Type 0
-Between window x y = ((window .x0 ≤ x) × (x ≤ window .x1)) × ((window .y0 ≤ y) × (y ≤ window .y1))
+abbrev pub Covers : Window → ℕ → ℕ → Type 0
+Covers window x y = ((window .x0 ≤ x) × (x ≤ window .x1)) × ((window .y0 ≤ y) × (y ≤ window .y1))
 
 -- 02: a window wholly off the panel has none of its pixels
 abbrev pub WhollyOff : Panel → Window → Type 0
-WhollyOff panel window = (x y : ℕ) → HasPixel panel x y → Between window x y → ⊥
+WhollyOff panel window = (x y : ℕ) → HasPixel panel x y → Covers window x y → ⊥
 
 module _ (panel : Panel) (window : Window) where
   -- the part begins on the panel, and in the window
@@ -34,7 +34,7 @@ module _ (panel : Panel) (window : Window) where
   part-begins o = let side = pow-pos (panel .order) in
       record { on-panel = (omega (arith, side, o .x-ordered), omega (arith, side, o .y-ordered)); ordered = record { x-ordered = omega (arith, o .x-ordered); y-ordered = omega (arith, o .y-ordered) } }
 
-  -- its pixels are the window's pixels on the panel
+  -- what the definition means: its pixels are the window's pixels on the panel
   pub part-has : (code : ℕ) → (inWindow (partOn panel window) code ≡ true) ↔ ((inWindow window code ≡ true) × HasPixel panel (xOf code) (yOf code))
   part-has code =
       let side = pow-pos (panel .order) in
@@ -47,7 +47,7 @@ module _ (panel : Panel) (window : Window) where
   -- and it is empty exactly where the window is wholly off
   pub empty-exactly : (Ordered (partOn panel window) → ⊥) ↔ WhollyOff panel window
   empty-exactly = (
-    (λ none x y on between. none (record { x-ordered = omega (arith, on, between); y-ordered = omega (arith, on, between) })),
+    (λ none x y on covered. none (record { x-ordered = omega (arith, on, covered); y-ordered = omega (arith, on, covered) })),
     (λ off o. let b = part-begins o in off (window .x0) (window .y0) (b .on-panel) ((omega arith, b .ordered .x-ordered), (omega arith, b .ordered .y-ordered))),
   )
 
