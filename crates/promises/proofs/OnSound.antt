@@ -1,7 +1,7 @@
 -- What each call answers and leaves by equation, on a store that holds this set; and 13 on a spoiled one.
 use Prim.Native.Nat.{ℕ, _≤_, _<_}
 use native.Mathlib.Omega.{arith}
-use mathlib.Core.Path.{_≡_, ap, _∙_}
+use mathlib.Core.Path.{_≡_, ap, ap₂, sym, _∙_}
 use mathlib.Core.Bool.{true, false}
 use mathlib.Core.List.{List, _++_}
 use lib.ListN.{length, drop}
@@ -43,7 +43,7 @@ module _ {before set : List ℕ} (holds : Holds before set) {after : List ℕ} {
 
 -- where the part is empty, 0 and 0 are its numbers too
 none-there : (words : List ℕ) {part : Window} (set : List ℕ) → (Ordered part → ⊥) → accepted 0 0 ≡ foundAndOpened words part set
-none-there words set none = rw (none-found none set, none-opened none (tree (panelOf (sizesOf words)) (member set)))
+none-there words set none = sym (ap₂ accepted (ap length (none-found none set)) (none-opened none (tree (panelOf (sizesOf words)) (member set))))
 
 module _ {words set : List ℕ} (holds : Holds words set) {a : Answer} where
   pub ask-answers : {x y : ℕ} → AskMeets words x y a → HasPixelOn words x y

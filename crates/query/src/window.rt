@@ -12,7 +12,7 @@ pub struct Window {
     pub y1: u32,
 }
 
-// The codes of a window's lowest and highest pixel: a walk compares codes, and takes none apart.
+// The codes of a part's lowest and highest pixel: a walk compares codes, and takes none apart.
 pub struct Corners {
     pub first: u32,
     pub last: u32,
