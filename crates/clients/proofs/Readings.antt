@@ -9,7 +9,7 @@ use Rattle.pktree.specs.Panel.{HasPixel}
 use Rattle.pktree.specs.PixelSet.{member}
 use Rattle.pktree.specs.Elements.{gather}
 use Rattle.pktree.specs.Tree.{tree}
-use Rattle.pktree.specs.Window.{Ordered, partOn, someFrom, found, openedByPixel, openedByWindow}
+use Rattle.pktree.specs.Window.{Ordered, someFrom, openedByPixel}
 use Rattle.pktree.specs.Image.{image}
 use Rattle.measures.specs.declared.sizes.Sizes.{Sizes}
 use Rattle.measures.specs.Sizes.{panelOf, sizesOf}
@@ -20,7 +20,7 @@ use Rattle.promises.specs.Calls.{asked, MarkMeets, ClearMeets, AskMeets, window
 use Rattle.promises.proofs.Answers.{refusal-of}
 use Rattle.promises.proofs.Exactly.{image-loaded, set-filled, check-answers}
 use Rattle.promises.proofs.OnSound.{mark-already, clear-unmarked, clear-removes, ask-answers, count-answers, list-writes, list-short, save-writes, save-short}
-use Rattle.clients.specs.Known.{firstSet, HoldsOf9, HoldsFirst, firstImage, PanelAsked, PanelListed, PanelSaved, ClearedListed, SpoiltOf9}
+use Rattle.clients.specs.Known.{firstSet, HoldsOf9, HoldsFirst, firstImage, PanelAsked, partFound, partAnswer, PanelCounted, PanelListed, PanelSaved, ClearedListed, SpoiltOf9}
 
 -- the set is one of the panel, and its image is these bytes, by computation
 has-image : HasImage (panelOf (asked 3 3 9)) 9 firstImage firstSet
@@ -43,28 +43,20 @@ unmarked-3 : accepted (yesNo (member firstSet (codeOf 1 1))) (openedByPixel (cod
 unfolding interleave gather
 unmarked-3 = refl
 
--- of a window's part on a panel of these sizes
-abbrev partFound : Sizes → ℕ → ℕ → ℕ → ℕ → List ℕ
-partFound sizes x0 y0 x1 y1 = found (partOn (panelOf sizes) (windowGiven x0 y0 x1 y1)) firstSet
-
-abbrev foundOpened : Sizes → ℕ → ℕ → ℕ → ℕ → Answer
-foundOpened sizes x0 y0 x1 y1 =
-    accepted (length (partFound sizes x0 y0 x1 y1)) (openedByWindow (partOn (panelOf sizes) (windowGiven x0 y0 x1 y1)) (tree (panelOf sizes) (member firstSet)))
-
-upper-right : foundOpened (asked 3 3 9) 4 4 7 7 ≡ accepted 1 1
+upper-right : partAnswer (windowGiven 4 4 7 7) firstSet (asked 3 3 9) ≡ accepted 1 1
 unfolding gather gatherBits someFrom
 upper-right = refl
 
 -- over the right and the upper edge, to the largest coordinate of a call
-over-edges : foundOpened (asked 3 3 9) 6 6 9 4294967295 ≡ accepted 1 1
+over-edges : partAnswer (windowGiven 6 6 9 4294967295) firstSet (asked 3 3 9) ≡ accepted 1 1
 unfolding gather gatherBits someFrom
 over-edges = refl
 
-all-codes : partFound (asked 3 3 9) 0 0 7 7 ≡ firstSet
+all-codes : partFound (windowGiven 0 0 7 7) firstSet (asked 3 3 9) ≡ firstSet
 unfolding gatherBits
 all-codes = refl
 
-all-found : foundOpened (asked 3 3 9) 0 0 7 7 ≡ accepted 4 2
+all-found : partAnswer (windowGiven 0 0 7 7) firstSet (asked 3 3 9) ≡ accepted 4 2
 unfolding gather gatherBits someFrom
 all-found = refl
 
@@ -80,6 +72,12 @@ ask-marked p = p .says (omega arith, omega arith) ∙ marked-0
 
 pub ask-unmarked : {a : Answer} → PanelAsked 1 1 a → a ≡ accepted 0 2
 ask-unmarked p = p .says (omega arith, omega arith) ∙ unmarked-3
+
+pub count-window : {a : Answer} → PanelCounted (windowGiven 4 4 7 7) a → a ≡ accepted 1 1
+count-window p = p .says (record { x-ordered = omega arith; y-ordered = omega arith }) ∙ upper-right
+
+pub count-over-edges : {a : Answer} → PanelCounted (windowGiven 6 6 9 4294967295) a → a ≡ accepted 1 1
+count-over-edges p = p .says (record { x-ordered = omega arith; y-ordered = omega arith }) ∙ over-edges
 
 module _ {words : List ℕ} (h : HoldsFirst words) where
   on-9 : {x y : ℕ} → HasPixel (panelOf (asked 3 3 9)) x y → HasPixelOn words x y
@@ -97,22 +95,18 @@ module _ {words : List ℕ} (h : HoldsFirst words) {a : Answer} where
         (h .sizes-are) (ask-answers (h .holds) m) on;
   }
 
-  counted : {x0 y0 x1 y1 : ℕ} → Ordered (windowGiven x0 y0 x1 y1) → CountMeets words x0 y0 x1 y1 a → a ≡ foundOpened (asked 3 3 9) x0 y0 x1 y1
-  counted {x0} {y0} {x1} {y1} ordered m = subst (λ (s : Sizes). a ≡ foundOpened s x0 y0 x1 y1) (h .sizes-are) (count-answers (h .holds) ordered m)
-
-  pub counted-panel : CountMeets words 4 4 7 7 a → a ≡ accepted 1 1
-  counted-panel m = counted (record { x-ordered = omega arith; y-ordered = omega arith }) m ∙ upper-right
-
-  pub counted-over-edges : CountMeets words 6 6 9 4294967295 a → a ≡ accepted 1 1
-  counted-over-edges m = counted (record { x-ordered = omega arith; y-ordered = omega arith }) m ∙ over-edges
+  pub counted-panel : {x0 y0 x1 y1 : ℕ} → CountMeets words x0 y0 x1 y1 a → PanelCounted (windowGiven x0 y0 x1 y1) a
+  counted-panel {x0} {y0} {x1} {y1} m = record {
+    says = λ ordered. subst (λ (s : Sizes). a ≡ partAnswer (windowGiven x0 y0 x1 y1) firstSet s) (h .sizes-are) (count-answers (h .holds) ordered m);
+  }
 
   pub listed-panel : {before after : List ℕ} → ListMeets words 0 0 7 7 before after a → PanelListed before after a
   listed-panel {before} {after} m =
       let ordered : Ordered (windowGiven 0 0 7 7) = record { x-ordered = omega arith; y-ordered = omega arith } in
-      let codes : partFound (sizesOf words) 0 0 7 7 ≡ firstSet = subst (λ (s : Sizes). partFound s 0 0 7 7 ≡ firstSet) (sym (h .sizes-are)) all-codes in
+      let codes : partFound (windowGiven 0 0 7 7) firstSet (sizesOf words) ≡ firstSet = subst (λ (s : Sizes). partFound (windowGiven 0 0 7 7) firstSet s ≡ firstSet) (sym (h .sizes-are)) all-codes in
       record {
         written = λ room. let w = list-writes (h .holds) ordered m (subst (λ (l : List ℕ). length l ≤ length before) (sym codes) room) in (
-          subst (λ (s : Sizes). a ≡ foundOpened s 0 0 7 7) (h .sizes-are) (w .0) ∙ all-found,
+          subst (λ (s : Sizes). a ≡ partAnswer (windowGiven 0 0 7 7) firstSet s) (h .sizes-are) (w .0) ∙ all-found,
           subst (λ (l : List ℕ). after ≡ l ++ drop (length l) before) codes (w .1),
         );
         lacking = λ lacks. let r = list-short (h .holds) ordered m (subst (λ (l : List ℕ). length before < length l) (sym codes) lacks) in
@@ -153,12 +147,11 @@ module _ {words : List ℕ} (h : HoldsFirst words) {after : List ℕ} {a : Answe
       let c = clear-removes (h .holds) (on-9 h (omega arith, omega arith)) m refl in
       let s = c .sizes-are ∙ h .sizes-are in
       let left : List ℕ = 0 ∷ 2 ∷ 60 ∷ [] in
-      let codes : (z : Sizes) → List ℕ = λ z. found (partOn (panelOf z) (windowGiven 0 0 7 7)) left in
-      let all : codes (sizesOf after) ≡ left = subst (λ (z : Sizes). codes z ≡ left) (sym s) refl in
+      let codes : partFound (windowGiven 0 0 7 7) left (sizesOf after) ≡ left = subst (λ (z : Sizes). partFound (windowGiven 0 0 7 7) left z ≡ left) (sym s) refl in
       record {
-        written = λ room. let w = list-writes (c .holds) (record { x-ordered = omega arith; y-ordered = omega arith }) l (subst (λ (f : List ℕ). length f ≤ length before) (sym all) room) in (
-          subst (λ (z : Sizes). b ≡ accepted (length (codes z)) (openedByWindow (partOn (panelOf z) (windowGiven 0 0 7 7)) (tree (panelOf z) (member left)))) s (w .0),
-          subst (λ (f : List ℕ). written ≡ f ++ drop (length f) before) all (w .1),
+        written = λ room. let w = list-writes (c .holds) (record { x-ordered = omega arith; y-ordered = omega arith }) l (subst (λ (f : List ℕ). length f ≤ length before) (sym codes) room) in (
+          subst (λ (z : Sizes). b ≡ partAnswer (windowGiven 0 0 7 7) left z) s (w .0),
+          subst (λ (f : List ℕ). written ≡ f ++ drop (length f) before) codes (w .1),
         );
       }
 

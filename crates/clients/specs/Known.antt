@@ -8,7 +8,8 @@ use Rattle.morton.specs.Code.{codeOf}
 use Rattle.pktree.specs.Panel.{HasPixel}
 use Rattle.pktree.specs.PixelSet.{member}
 use Rattle.pktree.specs.Tree.{tree}
-use Rattle.pktree.specs.Window.{openedByPixel}
+use Rattle.pktree.specs.Window.{Window, Ordered, partOn, found, openedByPixel, openedByWindow}
+use Rattle.measures.specs.declared.sizes.Sizes.{Sizes}
 use Rattle.measures.specs.Sizes.{panelOf, sizesOf, UsableStore}
 use Rattle.store.specs.Sound.{Holds}
 use Rattle.promises.specs.Answer.{Answer, accepted, yesNo}
@@ -42,6 +43,17 @@ firstImage =
 pub record PanelAsked (x y : ℕ) (a : Answer) : Type 0 where
   pub says : HasPixel (panelOf (asked 3 3 9)) x y
       → a ≡ accepted (yesNo (member firstSet (codeOf x y))) (openedByPixel (codeOf x y) (tree (panelOf (asked 3 3 9)) (member firstSet)))
+
+-- what the window's part on a panel of these sizes has of a set, and how many blocks of the set's tree share a pixel with it
+abbrev pub partFound : Window → List ℕ → Sizes → List ℕ
+partFound window set sizes = found (partOn (panelOf sizes) window) set
+
+abbrev pub partAnswer : Window → List ℕ → Sizes → Answer
+partAnswer window set sizes = accepted (length (partFound window set sizes)) (openedByWindow (partOn (panelOf sizes) window) (tree (panelOf sizes) (member set)))
+
+-- count
+pub record PanelCounted (window : Window) (a : Answer) : Type 0 where
+  pub says : Ordered window → a ≡ partAnswer window firstSet (asked 3 3 9)
 
 -- list of the whole panel: its four codes in rising order, two blocks opened; or 9 with the words needed
 pub record PanelListed (before after : List ℕ) (a : Answer) : Type 0 where

@@ -2,8 +2,9 @@ ghost use Prim.Native.Nat.{_≤_};
 ghost use mathlib.Core.Path.{_≡_};
 ghost use lib.ListN.{length};
 ghost use Rattle.promises.specs.Answer.{accepted};
+ghost use Rattle.promises.specs.Calls.{windowGiven};
 ghost use Rattle.answers.specs.Answer.{askAnswer, countAnswer, listAnswer, saveAnswer};
-ghost use Rattle.clients.specs.Known.{firstSet, HoldsOf9, PanelAsked, PanelListed, PanelSaved, ClearedListed};
+ghost use Rattle.clients.specs.Known.{firstSet, HoldsOf9, PanelAsked, PanelCounted, PanelListed, PanelSaved, ClearedListed};
 use answers::Asking;
 use answers::Counting;
 use answers::Listing;
@@ -47,12 +48,13 @@ pub fn ask_unmarked() -> Asking
     ask_panel(&mut store, 1, 1)
 }
 
-fn count_panel(store: &mut [u32]) -> Counting
+// count on it.
+fn count_panel(store: &mut [u32], x0: u32, y0: u32, x1: u32, y1: u32) -> Counting
     requires { ⌜ 148 ≤ length (now store) ⌝ }
-    ensures { λ r. ⌜ countAnswer r ≡ accepted 1 1 ⌝ }
+    ensures { λ r. ⌜ PanelCounted (windowGiven x0 y0 x1 y1) (countAnswer r) ⌝ }
 {
     first_panel(store);
-    register::count(store, 4, 4, 7, 7)
+    register::count(store, x0, y0, x1, y1)
 }
 
 // 01: window 4,4 to 7,7 finds code 60, 1 opened.
@@ -60,15 +62,7 @@ pub fn count_window() -> Counting
     ensures { λ r. ⌜ countAnswer r ≡ accepted 1 1 ⌝ }
 {
     let mut store = [0u32; 148];
-    count_panel(&mut store)
-}
-
-fn count_over(store: &mut [u32]) -> Counting
-    requires { ⌜ 148 ≤ length (now store) ⌝ }
-    ensures { λ r. ⌜ countAnswer r ≡ accepted 1 1 ⌝ }
-{
-    first_panel(store);
-    register::count(store, 6, 6, 9, 0xFFFFFFFF)
+    count_panel(&mut store, 4, 4, 7, 7)
 }
 
 // 02, P3: over the right and the upper edge, it finds what its part on the panel has: code 60, 1 opened.
@@ -76,7 +70,7 @@ pub fn count_over_edges() -> Counting
     ensures { λ r. ⌜ countAnswer r ≡ accepted 1 1 ⌝ }
 {
     let mut store = [0u32; 148];
-    count_over(&mut store)
+    count_panel(&mut store, 6, 6, 9, 0xFFFFFFFF)
 }
 
 fn list_panel(store: &mut [u32], output: &mut [u32]) -> Listing
