@@ -111,8 +111,8 @@ pk_answer pk_ask(const uint32_t *store, size_t words, uint32_t x, uint32_t y);
 
 /* The window from (x0, y0) to (x1, y1), both corners included; it may reach past the panel, to any coordinate, and its part on the panel is
    meant. first: the marked pixels in it. second: the blocks opened, which are those of the tree that share a pixel with it. A window wholly
-   off the panel gives 0 and 0 without a look at the slots, so also where the store is damaged. A corner below 0 is given as 0: as a negative
-   number it would be far beyond the panel, and the window reversed. Refusals 3, 8, 13. */
+   off the panel gives 0 and 0 without a look at the slots, so also where the store is damaged. Give 0 for a corner below 0: a negative number
+   is taken for one far beyond the panel, and a window from there back onto the panel is refused with 8. Refusals 3, 8, 13. */
 pk_answer pk_count(const uint32_t *store, size_t words, uint32_t x0, uint32_t y0, uint32_t x1, uint32_t y1);
 
 /* As pk_count, and writes the code of each found pixel once to the first words of the output, in rising order: for the same pixels and

@@ -19,7 +19,7 @@ Known words sizes = (sizes ≡ sizesOf words) × UsableStore words
 pub order-small : {words : List ℕ} {sizes : Sizes} → Known words sizes → sizes .order ≤ 16
 order-small known = rw (known .0) (known .1 .valid .panel .order-to)
 
--- it has a word, and a panel has at least one pixel
+-- it fits in a word, and is at least 1
 pub side-shifted : {order : ℕ} → order ≤ 16 → (1 * 2 ^ order % 4294967296 ≡ 2 ^ order) × (2 ^ order ≤ largestSide) × (1 ≤ 2 ^ order)
 side-shifted {order} low = let p : 2 ^ order ≤ 2 ^ 16 = pow-mono low in omega (arith, pow-pos order)
 

@@ -51,7 +51,7 @@ partFound window set sizes = found (partOn (panelOf sizes) window) set
 abbrev pub partAnswer : Window → List ℕ → Sizes → Answer
 partAnswer window set sizes = accepted (length (partFound window set sizes)) (openedByWindow (partOn (panelOf sizes) window) (tree (panelOf sizes) (member set)))
 
--- count
+-- count, of any window: its part's numbers
 pub record PanelCounted (window : Window) (a : Answer) : Type 0 where
   pub says : Ordered window → a ≡ partAnswer window firstSet (asked 3 3 9)
 

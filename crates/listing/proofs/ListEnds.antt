@@ -16,7 +16,7 @@ use Rattle.measures.specs.declared.sizes.Layout.{Layout}
 use Rattle.store.specs.Sound.{Holds}
 use Rattle.answers.specs.declared.Refusal.{Refusal}
 use Rattle.promises.specs.Answer.{Answer, accepted, refused, short}
-use Rattle.promises.specs.Effect.{effect, passed, stopped, partIn, OfPart}
+use Rattle.promises.specs.Effect.{effect, passed, stopped, partIn}
 use Rattle.promises.specs.Walk.{Spoiled}
 use Rattle.promises.specs.Calls as calls
 use Rattle.promises.proofs.Answers.{refusal-of}
@@ -38,12 +38,12 @@ use Rattle.listing.proofs.WrittenAt.{written-front}
 
 -- 13 of count is 13 of list, with nothing written
 pub not-counted : {words before : List ℕ} (window : tree.Window) {counted : Counting} {refusal : Refusal} → counted ≡ Refused refusal
-    → OfPart words window (calls.Counts words (partIn words window)) (effect (countAnswer counted) words words)
-    → OfPart words window (calls.Lists words (partIn words window)) (effect (refused (numberOf refusal)) before before)
+    → calls.Counts words window (effect (countAnswer counted) words words)
+    → calls.Lists words window (effect (refused (numberOf refusal)) before before)
 not-counted {words} {before} window {refusal = refusal} e count = go (rw e at count)
   where
-    go : OfPart words window (calls.Counts words (partIn words window)) (effect (refused (numberOf refusal)) words words)
-        → OfPart words window (calls.Lists words (partIn words window)) (effect (refused (numberOf refusal)) before before)
+    go : calls.Counts words window (effect (refused (numberOf refusal)) words words)
+        → calls.Lists words window (effect (refused (numberOf refusal)) before before)
     go (stopped none r) = absurd (is-refused refusal (refusal-of (r .is)))
     go (passed some c) = passed some (record {
       ends = ⊎-elim (λ a. absurd (is-refused refusal (a .accepted))) (λ d. inr (d .0, refl)) (c .ends);
@@ -52,11 +52,11 @@ not-counted {words} {before} window {refusal = refusal} e count = go (rw e at co
     })
 
 pub counted-before : {words : List ℕ} (window : tree.Window) {counted : Counting} {n m : ℕ} → counted ≡ Found n m
-    → OfPart words window (calls.Counts words (partIn words window)) (effect (countAnswer counted) words words) → CountedBefore words window n
+    → calls.Counts words window (effect (countAnswer counted) words words) → CountedBefore words window n
 counted-before window {m = m} e count = record { opened = m; counts = rw e at count }
 
 module _ {words : List ℕ} {window : tree.Window} {n : ℕ} (count : CountedBefore words window n) (some : Ordered (partIn words window)) where
-  counts : calls.Counts words (partIn words window) (effect (accepted n (count .opened)) words words)
+  counts : calls.CountsIn words (partIn words window) (effect (accepted n (count .opened)) words words)
   counts = where-holds (count .counts) some
 
   -- what was found is what 01 finds
@@ -70,7 +70,7 @@ module _ {words : List ℕ} {window : tree.Window} {n : ℕ} (count : CountedBef
   not-spoiled : Spoiled words → ⊥
   not-spoiled s = omega (arith, refusal-of (counts .spoiled s))
 
-  short-listed : {before : List ℕ} {w : ℕ} → w ≡ n → length before < w → calls.Lists words (partIn words window) (effect (short n) before before)
+  short-listed : {before : List ℕ} {w : ℕ} → w ≡ n → length before < w → calls.ListsIn words (partIn words window) (effect (short n) before before)
   short-listed wide h =
       record {
         ends = inl (inr (record { returns = record { is = refl; same = refl }; lacks = omega arith; needed-to = found-few }));
@@ -96,7 +96,7 @@ module _ {words before after : List ℕ} {window : tree.Window} {corners : Corne
 
 -- each way out of the call, by the part that its sizes give
 module _ (words : List ℕ) {sizes : Sizes} (usable : UsableStore words × (sizes ≡ sizesOf words)) (window : tree.Window) {part : Part} (judged : PartOf (panelOf sizes) window part) where
-  pub none-listed : {before : List ℕ} → part ≡ Empty → OfPart words window (calls.Lists words (partIn words window)) (effect (accepted 0 0) before before)
+  pub none-listed : {before : List ℕ} → part ≡ Empty → calls.Lists words window (effect (accepted 0 0) before before)
   none-listed e = stopped (part-empty words (usable .1) window judged e) (record { is = refl; same = refl })
 
   module _ {corners : Corners} (e : part ≡ Between corners) where
@@ -104,13 +104,13 @@ module _ (words : List ℕ) {sizes : Sizes} (usable : UsableStore words × (size
     between = part-between words (usable .1) window judged e
 
     module _ {n w : ℕ} (count : CountedBefore words window n) (wide : w ≡ n) {before : List ℕ} where
-      pub too-short : length before < w → OfPart words window (calls.Lists words (partIn words window)) (effect (short n) before before)
+      pub too-short : length before < w → calls.Lists words window (effect (short n) before before)
       too-short h = passed (between .ordered) (short-listed count (between .ordered) wide h)
 
       module _ {layout : Layout} {after : List ℕ} {sum : Sum} {r : Counting} (fits : w ≤ length before) (laid : LaidOut sizes layout)
           (root : RootListed (rangeOf layout corners) words (sizes .order) w before after sum) (within : SumWithin (sizes .most) layout sum r) where
         -- the walk from the root answers as count does
-        again : calls.Counts words (partIn words window) (effect (countAnswer r) words words)
+        again : calls.CountsIn words (partIn words window) (effect (countAnswer r) words words)
         again = count-answered (usable .0) (usable .1) between laid (walk-counts (root .meets)) within
 
         all-wrote : {set : List ℕ} → Holds words set → after ≡ writtenAt before 0 (found (partIn words window) set)
@@ -131,21 +131,21 @@ module _ (words : List ℕ) {sizes : Sizes} (usable : UsableStore words × (size
         rest-same : drop n after ≡ drop n before
         rest-same = subst (λ (i : ℕ). drop i after ≡ drop i before) wide (ap (drop w) (root .is) ∙ drop-at (root .part) (drop w before) w part-long)
 
-        pub not-listed : {refusal : Refusal} → r ≡ Refused refusal → OfPart words window (calls.Lists words (partIn words window)) (effect (refused (numberOf refusal)) before after)
+        pub not-listed : {refusal : Refusal} → r ≡ Refused refusal → calls.Lists words window (effect (refused (numberOf refusal)) before after)
         not-listed {refusal} z = passed (between .ordered) (go (rw z at again))
           where
-            go : calls.Counts words (partIn words window) (effect (refused (numberOf refusal)) words words)
-                → calls.Lists words (partIn words window) (effect (refused (numberOf refusal)) before after)
+            go : calls.CountsIn words (partIn words window) (effect (refused (numberOf refusal)) words words)
+                → calls.ListsIn words (partIn words window) (effect (refused (numberOf refusal)) before after)
             go c = record {
               ends = ⊎-elim (λ a. absurd (is-refused refusal (a .accepted))) (λ d. inr (d .0, same-length)) (c .ends);
               spoiled = c .spoiled;
               sound = λ set holds. absurd (is-refused refusal (refusal-of (c .sound set holds .is)));
             }
 
-        pub listed : {x opened : ℕ} → r ≡ Found x opened → OfPart words window (calls.Lists words (partIn words window)) (effect (accepted n opened) before after)
+        pub listed : {x opened : ℕ} → r ≡ Found x opened → calls.Lists words window (effect (accepted n opened) before after)
         listed {x} {opened} z = passed (between .ordered) (go (rw z at again))
           where
-            go : calls.Counts words (partIn words window) (effect (accepted x opened) words words) → calls.Lists words (partIn words window) (effect (accepted n opened) before after)
+            go : calls.CountsIn words (partIn words window) (effect (accepted x opened) words words) → calls.ListsIn words (partIn words window) (effect (accepted n opened) before after)
             go c = record {
               ends = inl (inl (record {
                 accepts = record { accepted = refl; first-to = found-few count (between .ordered); second-to = ⊎-elim (λ a. a .second-to) (λ d. absurd (omega (arith, refusal-of (d .0)))) (c .ends) };

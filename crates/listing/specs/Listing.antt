@@ -14,7 +14,7 @@ use Rattle.walks.proofs.Walks.{InsideWalked}
 use Rattle.query.specs.declared.count.RangeQuery.{RangeQuery}
 use Rattle.query.specs.declared.count.Sum.{Sum}
 use Rattle.promises.specs.Answer.{accepted}
-use Rattle.promises.specs.Effect.{effect, partIn, OfPart}
+use Rattle.promises.specs.Effect.{effect}
 use Rattle.promises.specs.Calls as calls
 use Rattle.query.specs.declared.window.Corners.{Corners}
 use Rattle.query.specs.Corners.{windowBetween}
@@ -54,4 +54,4 @@ pub record PixelListed (corners : Corners) (code at : ℕ) (before after : List 
 -- count has found so many pixels in the window's part on the panel
 pub record CountedBefore (words : List ℕ) (window : tree.Window) (n : ℕ) : Type 0 where
   pub opened : ℕ
-  pub counts : OfPart words window (calls.Counts words (partIn words window)) (effect (accepted n opened) words words)
+  pub counts : calls.Counts words window (effect (accepted n opened) words words)

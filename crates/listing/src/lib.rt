@@ -3,7 +3,7 @@ ghost use Prim.Native.Nat.{_≤_};
 ghost use lib.ListN.{length};
 ghost use mathlib.Core.Path.{_≡_};
 ghost use Rattle.measures.specs.Sizes.{UsableStore, sizesOf};
-ghost use Rattle.promises.specs.Effect.{effect, partIn, OfPart};
+ghost use Rattle.promises.specs.Effect.{effect};
 ghost use Rattle.promises.specs.Calls as calls;
 ghost use Rattle.answers.specs.Answer.{listAnswer};
 ghost use Rattle.listing.specs.Listing.{PixelListed, BlockListed, RootListed, CountedBefore};
@@ -114,7 +114,7 @@ fn list_counted(
     found: u32,
 ) -> Listing
     requires { ⌜ (UsableStore (now store) × (sizes ≡ sizesOf (now store))) × CountedBefore (now store) (windowOf window) found ⌝ }
-    ensures { λ r. ⌜ OfPart (now (store .entry)) (windowOf window) (calls.Lists (now (store .entry)) (partIn (now (store .entry)) (windowOf window))) (effect (listAnswer r) (now (output .entry)) (now (output .exit))) ⌝ }
+    ensures { λ r. ⌜ calls.Lists (now (store .entry)) (windowOf window) (effect (listAnswer r) (now (output .entry)) (now (output .exit))) ⌝ }
 {
     let Part::Between(corners) = part_on(sizes, window) else {
         return Listing::Found {
@@ -138,7 +138,7 @@ fn list_counted(
 // 01's list of the window's part on the panel, where refusal 3 does not apply: it counts first, so that nothing is written to an output that is too short.
 pub fn list(store: &[u32], sizes: Sizes, window: Window, output: &mut [u32]) -> Listing
     requires { ⌜ UsableStore (now store) × (sizes ≡ sizesOf (now store)) ⌝ }
-    ensures { λ r. ⌜ OfPart (now (store .entry)) (windowOf window) (calls.Lists (now (store .entry)) (partIn (now (store .entry)) (windowOf window))) (effect (listAnswer r) (now (output .entry)) (now (output .exit))) ⌝ }
+    ensures { λ r. ⌜ calls.Lists (now (store .entry)) (windowOf window) (effect (listAnswer r) (now (output .entry)) (now (output .exit))) ⌝ }
 {
     match count(store, sizes, window) {
         Counting::Found { found, opened: _ } => list_counted(store, sizes, window, output, found),

@@ -11,7 +11,7 @@ use Rattle.pktree.specs.PixelSet.{Ascending, PixelSet}
 use Rattle.pktree.specs.Window.{Window, Ordered}
 use Rattle.pktree.proofs.Parts.{WhollyOff, empty-exactly}
 use Rattle.measures.specs.Sizes.{panelOf, sizesOf, storeWords, ValidSizes, UsableStore}
-use Rattle.promises.specs.Effect.{HasPixelOn, Effect, effect, passed, stopped, OfPixel, OfWindow}
+use Rattle.promises.specs.Effect.{HasPixelOn, Effect, effect, passed, stopped, OfPixel, OfWindow, OfPart}
 use Rattle.image.specs.Judged.{WellFormed, FitsRegister, ImageOfSome}
 use Rattle.image.specs.Held.{HasImage, SomeHasImage, panelIn, mostIn}
 use Rattle.image.proofs.Accepted.{image-well-formed, image-fits, image-of-some, one-set}
@@ -67,7 +67,7 @@ module _ {words : List ℕ} {rest : Effect → Type 0} {e : Effect} (number : re
     off-panel = then-exactly (omega arith) (exactly (λ r. number r .1)) m;
   }
 
-  window-refusals : {window : Window} → OfWindow words window rest e → WindowRefusals words window (e .answer)
+  window-refusals : {window : Window} → OfWindow words window (OfPart words window rest) e → WindowRefusals words window (e .answer)
   window-refusals {window} m = record {
     unusable = exactly (never (omega arith) (never (omega arith) (λ r. number r .0))) m;
     never-off-panel = never (omega arith) (never (omega arith) (never (omega arith) (λ r. number r .1))) m;

@@ -6,7 +6,7 @@ use mathlib.Core.Logic.{_↔_, _⊎_, inl, inr}
 use mathlib.Core.List.{List}
 use Rattle.pktree.specs.Window.{Window}
 use Rattle.promises.specs.Answer.{Answer, refused, accepted}
-use Rattle.promises.specs.Effect.{Effect, Returns, _else_then_, passed, stopped, OfPixel, OfWindow}
+use Rattle.promises.specs.Effect.{Effect, Returns, _else_then_, passed, stopped, OfPixel, OfWindow, OfPart}
 use Rattle.promises.proofs.Answers.{refusal-of}
 
 -- the number of an effect
@@ -91,7 +91,7 @@ module _ {e : Effect} where
     pixel-ends (passed u m) = refused-or (omega arith) (omega arith) (omega arith) m
 
     -- or the window is wholly off the panel
-    pub window-ends : {window : Window} → OfWindow words window rest e → CheckRefused e ⊎ Returns (accepted 0 0) e ⊎ rest e
+    pub window-ends : {window : Window} → OfWindow words window (OfPart words window rest) e → CheckRefused e ⊎ Returns (accepted 0 0) e ⊎ rest e
     window-ends (stopped f r) = inl (by-check 3 (omega arith) (omega arith) (omega arith) r)
     window-ends (passed u (stopped f r)) = inl (by-check 8 (omega arith) (omega arith) (omega arith) r)
     window-ends (passed u (passed o (stopped f r))) = inr (inl r)

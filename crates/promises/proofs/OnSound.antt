@@ -14,7 +14,7 @@ use Rattle.pktree.proofs.Absurd.{zero-is-not-one}
 use Rattle.pktree.proofs.Parts.{part-begins, none-found, none-opened}
 use Rattle.measures.specs.Sizes.{panelOf, sizesOf, UsableStore}
 use Rattle.store.specs.Sound.{Holds}
-use Rattle.promises.specs.Effect.{HasPixelOn, effect, Returns, partIn, OfPart, passed, stopped}
+use Rattle.promises.specs.Effect.{HasPixelOn, effect, Returns, partIn, passed, stopped}
 use Rattle.promises.specs.Answer.{Answer, accepted, refused, yesNo}
 use Rattle.promises.specs.Walk.{Spoiled}
 use Rattle.promises.specs.Output.{WritesOrShort}
@@ -55,7 +55,7 @@ module _ {words set : List ℕ} (holds : Holds words set) {a : Answer} where
     pub count-answers : CountMeets words x0 y0 x1 y1 a → a ≡ foundAndOpened words (partIn words (windowGiven x0 y0 x1 y1)) set
     count-answers m = go (where-holds (where-holds m (holds .sound .usable)) ordered)
       where
-        go : OfPart words (windowGiven x0 y0 x1 y1) (Counts words (partIn words (windowGiven x0 y0 x1 y1))) (effect a words words) → a ≡ foundAndOpened words (partIn words (windowGiven x0 y0 x1 y1)) set
+        go : Counts words (windowGiven x0 y0 x1 y1) (effect a words words) → a ≡ foundAndOpened words (partIn words (windowGiven x0 y0 x1 y1)) set
         go (stopped none r) = r .is ∙ none-there words set none
         go (passed some w) = w .sound set holds .is
 
@@ -63,7 +63,7 @@ module _ {words set : List ℕ} (holds : Holds words set) {a : Answer} where
       list-answers : WritesOrShort (foundAndOpened words (partIn words (windowGiven x0 y0 x1 y1)) set) (found (partIn words (windowGiven x0 y0 x1 y1)) set) (effect a before after)
       list-answers = go (where-holds (where-holds meets (holds .sound .usable)) ordered)
         where
-          go : OfPart words (windowGiven x0 y0 x1 y1) (Lists words (partIn words (windowGiven x0 y0 x1 y1))) (effect a before after)
+          go : Lists words (windowGiven x0 y0 x1 y1) (effect a before after)
               → WritesOrShort (foundAndOpened words (partIn words (windowGiven x0 y0 x1 y1)) set) (found (partIn words (windowGiven x0 y0 x1 y1)) set) (effect a before after)
           go (stopped none r) = let e = none-found none set in
               passed (omega (arith, ap length e)) (record { is = r .is ∙ none-there words set none; wrote = r .same ∙ rw e })

@@ -17,7 +17,7 @@ use Rattle.measures.specs.Sizes.{ValidSizes, storeWords, sizesOf, UsableStore, 
 use Rattle.image.specs.Judged.{WellFormed, FitsRegister, ImageOfSome}
 use Rattle.image.specs.Held.{HasImage, panelIn, mostIn, mostBytes}
 use Rattle.promises.specs.Answer.{Answer, refused, accepted, yesNo}
-use Rattle.promises.specs.Effect.{effect, _else_then_, Effect, Returns, Unchanged, OfPixel, partIn, OfWindow}
+use Rattle.promises.specs.Effect.{effect, _else_then_, Effect, Returns, Unchanged, OfPixel, partIn, OfWindow, OfPart}
 use Rattle.promises.specs.Walk.{Walks, Accepts}
 use Rattle.promises.specs.Change.{Becomes, Done, Disabled}
 use Rattle.promises.specs.Output.{SameLength, WrittenOrShort, WritesOrShort}
@@ -101,20 +101,26 @@ slotsIn words = slotCount (sizesOf words .k) (sizesOf words .most)
 abbrev pub foundAndOpened : List ℕ → Window → List ℕ → Answer
 foundAndOpened words window set = accepted (length (found window set)) (openedByWindow window (tree (panelOf (sizesOf words)) (member set)))
 
--- count (store, x0, y0, x1, y1), of the part of the window on the panel (02, P3): never more than N pixels found, nor more than S blocks opened
+-- count (store, x0, y0, x1, y1): never more than N pixels found, nor more than S blocks opened; 02, P3: of the part of the window on the panel
+abbrev pub CountsIn : List ℕ → Window → Effect → Type 0
+CountsIn words part = Walks words (Accepts (sizesOf words .most) (slotsIn words)) Unchanged (λ set. Returns (foundAndOpened words part set))
+
 abbrev pub Counts : List ℕ → Window → Effect → Type 0
-Counts words window = Walks words (Accepts (sizesOf words .most) (slotsIn words)) Unchanged (λ set. Returns (foundAndOpened words window set))
+Counts words window = OfPart words window (CountsIn words (partIn words window))
 
 abbrev pub CountMeets : List ℕ → ℕ → ℕ → ℕ → ℕ → Answer → Type 0
-CountMeets words x0 y0 x1 y1 given = OfWindow words (windowGiven x0 y0 x1 y1) (Counts words (partIn words (windowGiven x0 y0 x1 y1))) (effect given words words)
+CountMeets words x0 y0 x1 y1 given = OfWindow words (windowGiven x0 y0 x1 y1) (Counts words (windowGiven x0 y0 x1 y1)) (effect given words words)
 
 -- list: as count, with each found code written once to the first words of the output; 02, P1: in ascending order, as a set is, so that every word is fixed
+abbrev pub ListsIn : List ℕ → Window → Effect → Type 0
+ListsIn words part =
+    Walks words (WrittenOrShort (sizesOf words .most) (slotsIn words)) SameLength (λ set. WritesOrShort (foundAndOpened words part set) (found part set))
+
 abbrev pub Lists : List ℕ → Window → Effect → Type 0
-Lists words window =
-    Walks words (WrittenOrShort (sizesOf words .most) (slotsIn words)) SameLength (λ set. WritesOrShort (foundAndOpened words window set) (found window set))
+Lists words window = OfPart words window (ListsIn words (partIn words window))
 
 abbrev pub ListMeets : List ℕ → ℕ → ℕ → ℕ → ℕ → List ℕ → List ℕ → Answer → Type 0
-ListMeets words x0 y0 x1 y1 before after given = OfWindow words (windowGiven x0 y0 x1 y1) (Lists words (partIn words (windowGiven x0 y0 x1 y1))) (effect given before after)
+ListMeets words x0 y0 x1 y1 before after given = OfWindow words (windowGiven x0 y0 x1 y1) (Lists words (windowGiven x0 y0 x1 y1)) (effect given before after)
 
 -- save (store, output bytes): never a longer image than N pixels in S blocks have; on a sound store the set's image, byte for byte, and its length
 abbrev pub imageOf : List ℕ → List ℕ → List ℕ

@@ -42,10 +42,10 @@ partIn words window = partOn (panelOf (sizesOf words)) window
 abbrev pub OfPixel : List ℕ → ℕ → ℕ → (Effect → Type 0) → Effect → Type 0
 OfPixel words x y rest = UsableStore words else refused 3 then HasPixelOn words x y else refused 4 then rest
 
+-- the checks that count and list share
+abbrev pub OfWindow : List ℕ → Window → (Effect → Type 0) → Effect → Type 0
+OfWindow words window rest = UsableStore words else refused 3 then Ordered window else refused 8 then rest
+
 -- 02, P3: where the window is wholly off the panel, nothing is found and no block opened, whatever the slots say; else the rest is of its part
 abbrev pub OfPart : List ℕ → Window → (Effect → Type 0) → Effect → Type 0
 OfPart words window rest = Ordered (partIn words window) else accepted 0 0 then rest
-
--- the checks that count and list share
-abbrev pub OfWindow : List ℕ → Window → (Effect → Type 0) → Effect → Type 0
-OfWindow words window rest = UsableStore words else refused 3 then Ordered window else refused 8 then OfPart words window rest

@@ -19,7 +19,7 @@ use Rattle.query.specs.declared.count.RangeQuery.{RangeQuery}
 use Rattle.query.specs.declared.count.Sum.{Sum}
 use Rattle.answers.specs.declared.Refusal.{Refusal}
 use Rattle.promises.specs.Answer.{accepted, refused}
-use Rattle.promises.specs.Effect.{effect, passed, stopped, partIn, OfPart}
+use Rattle.promises.specs.Effect.{effect, passed, stopped, partIn}
 use Rattle.promises.specs.Calls as calls
 use Rattle.promises.proofs.SpoiledRoot.{spoiled-shut}
 use Rattle.answers.specs.declared.Counting.{Counting}
@@ -52,7 +52,7 @@ module _ {words : List ℕ} {window : tree.Window} {corners : Corners} {sum : Su
       let a = meets .inside .right (sizesOf words .k) es (omega (arith, t .view .level-to)) (t .view) .says (t .ordered) (omega (arith, t .few-found, usable .valid .most-to)) (omega (arith, t .few-opened)) in
       (omega (arith, a .0, n), omega (arith, a .1, t .all-opened), omega (arith, a .0, t .few-found), omega (arith, a .1, t .few-opened))
 
-  root-counted : (r : Counting) → SumCase (sizesOf words .most) (layoutOf (sizesOf words)) sum r → calls.Counts words (windowBetween corners) (effect (countAnswer r) words words)
+  root-counted : (r : Counting) → SumCase (sizesOf words .most) (layoutOf (sizesOf words)) sum r → calls.CountsIn words (windowBetween corners) (effect (countAnswer r) words words)
   root-counted (Found f o) h =
       record {
         ends = inl (record { accepted = refl; first-to = h .2; second-to = h .3 });
@@ -78,9 +78,9 @@ module _ (words : List ℕ) {sizes : Sizes} (said : sizes ≡ sizesOf words) (wi
 -- of the call's sizes and window
 pub count-answered : {words : List ℕ} {sizes : Sizes} {layout : Layout} {window : tree.Window} {corners : Corners} {sum : Sum} {r : Counting} → UsableStore words → sizes ≡ sizesOf words
     → PartBetween (panelOf (sizesOf words)) window corners → LaidOut sizes layout → BlockCounted (rangeOf layout corners) words levelAboveRoot 0 (sizes .order) 0 0 0 sum
-    → SumWithin (sizes .most) layout sum r → calls.Counts words (partIn words window) (effect (countAnswer r) words words)
+    → SumWithin (sizes .most) layout sum r → calls.CountsIn words (partIn words window) (effect (countAnswer r) words words)
 count-answered {words} {corners = corners} {sum = sum} {r = r} usable said between laid meets within =
-    subst (λ (w : tree.Window). calls.Counts words w (effect (countAnswer r) words words)) (between .is)
+    subst (λ (w : tree.Window). calls.CountsIn words w (effect (countAnswer r) words words)) (between .is)
     (root-counted usable between (of-root words (λ l z. BlockCounted (rangeOf l corners) words levelAboveRoot 0 (z .order) 0 0 0 sum) said laid meets) r
     (of-root words (λ l z. SumWithin (z .most) l sum r) said laid within .case))
 
@@ -88,10 +88,10 @@ count-answered {words} {corners = corners} {sum = sum} {r = r} usable said betwe
 module _ (words : List ℕ) {sizes : Sizes} (usable : UsableStore words × (sizes ≡ sizesOf words)) (window : tree.Window) {part : Part} (judged : PartOf (panelOf sizes) window part) where
   pub counted-part : {layout : Layout} {corners : Corners} {sum : Sum} {r : Counting} → part ≡ Between corners → LaidOut sizes layout
       → BlockCounted (rangeOf layout corners) words levelAboveRoot 0 (sizes .order) 0 0 0 sum → SumWithin (sizes .most) layout sum r
-      → OfPart words window (calls.Counts words (partIn words window)) (effect (countAnswer r) words words)
+      → calls.Counts words window (effect (countAnswer r) words words)
   counted-part e laid meets within =
       let between = part-between words (usable .1) window judged e in
       passed (between .ordered) (count-answered (usable .0) (usable .1) between laid meets within)
 
-  pub none-counted : part ≡ Empty → OfPart words window (calls.Counts words (partIn words window)) (effect (accepted 0 0) words words)
+  pub none-counted : part ≡ Empty → calls.Counts words window (effect (accepted 0 0) words words)
   none-counted e = stopped (part-empty words (usable .1) window judged e) (record { is = refl; same = refl })

@@ -1,7 +1,7 @@
 ghost use mathlib.Core.Path.{_≡_};
 ghost use Rattle.query.specs.Counting.{tooMany, PixelCounted, BlockCounted, SumWithin};
 ghost use Rattle.measures.specs.Sizes.{UsableStore, sizesOf};
-ghost use Rattle.promises.specs.Effect.{effect, partIn, OfPart};
+ghost use Rattle.promises.specs.Effect.{effect};
 ghost use Rattle.promises.specs.Calls as calls;
 ghost use Rattle.answers.specs.Answer.{countAnswer};
 ghost use Rattle.query.specs.Corners.{windowOf};
@@ -116,7 +116,7 @@ pub fn within(most: u32, layout: Layout, sum: Sum) -> Counting
 // 01's count of the window's part on the panel, where refusal 3 does not apply.
 pub fn count(store: &[u32], sizes: Sizes, window: Window) -> Counting
     requires { ⌜ UsableStore (now store) × (sizes ≡ sizesOf (now store)) ⌝ }
-    ensures { λ r. ⌜ OfPart (now (store .entry)) (windowOf window) (calls.Counts (now (store .entry)) (partIn (now (store .entry)) (windowOf window))) (effect (countAnswer r) (now (store .entry)) (now (store .entry))) ⌝ }
+    ensures { λ r. ⌜ calls.Counts (now (store .entry)) (windowOf window) (effect (countAnswer r) (now (store .entry)) (now (store .entry))) ⌝ }
 {
     let Part::Between(corners) = part_on(sizes, window) else {
         return Counting::Found {

@@ -16,7 +16,7 @@ use Rattle.answers.specs.declared.judging.WindowJudged.{WindowJudged}
 use Rattle.answers.specs.declared.judging.WindowJudged.the-variants as window
 use Rattle.answers.specs.Judged.{PixelGiven, PixelRefused, JudgedPixel, WindowGiven, WindowRefused, JudgedWindow}
 use Rattle.promises.specs.Answer.{refused}
-use Rattle.promises.specs.Effect.{Effect, effect, Returns, _else_then_, passed, stopped, OfPixel, OfPart, OfWindow}
+use Rattle.promises.specs.Effect.{Effect, effect, Returns, _else_then_, passed, stopped, OfPixel, OfWindow}
 use Rattle.promises.specs.Calls.{windowGiven}
 use Rattle.answers.specs.Answer.{numberOf}
 
@@ -73,5 +73,5 @@ module _ (words : List ℕ) (x0 y0 x1 y1 : ℕ) {judged : WindowJudged} where
     pub window-of-usable : UsableStore words × (sizes ≡ sizesOf words)
     window-of-usable = (window-given .usable, window-given .sizes-are)
 
-    pub window-then : {rest : Effect → Type 0} {e : Effect} → OfPart words (windowGiven x0 y0 x1 y1) rest e → OfWindow words (windowGiven x0 y0 x1 y1) rest e
+    pub window-then : {rest : Effect → Type 0} {e : Effect} → rest e → OfWindow words (windowGiven x0 y0 x1 y1) rest e
     window-then r = passed (window-given .usable) (passed (window-given .ordered) r)
