@@ -7,9 +7,11 @@
 #include <chrono>
 #include <map>
 
-enum Operation { MARK, ASK, COUNT_SMALL, COUNT_MEDIUM, COUNT_SPOT, COUNT_WHOLE, LIST, SAVE, CLEAR, LOAD, LIST_WHOLE, FILL, OPERATIONS };
-static const char *const names[OPERATIONS] = {"mark",     "ask",  "count-16", "count-256", "count-spot", "count-all",
-                                              "list-256", "save", "clear",    "load",      "list-all",   "fill"};
+enum Operation {
+    MARK, ASK, COUNT_SMALL, COUNT_MEDIUM, COUNT_SPOT, COUNT_WHOLE, LIST_SMALL, LIST_MEDIUM, SAVE, CLEAR, LOAD, LIST_WHOLE, FILL, OPERATIONS
+};
+static const char *const names[OPERATIONS] = {"mark",    "ask",      "count-16", "count-256", "count-spot", "count-all", "list-16",
+                                              "list-256", "save",    "clear",    "load",      "list-all",   "fill"};
 static const int REPEATS = 3;
 
 struct Measured { double nanoseconds; uint64_t found; };
@@ -18,8 +20,8 @@ struct Output { Codes codes; Bytes bytes; size_t length; };
 static const std::vector<Window> &windows_of(const Workload &work, int operation)
 {
     switch (operation) {
-    case COUNT_SMALL: return work.small;
-    case COUNT_MEDIUM: case LIST: return work.medium;
+    case COUNT_SMALL: case LIST_SMALL: return work.small;
+    case COUNT_MEDIUM: case LIST_MEDIUM: return work.medium;
     case COUNT_SPOT: return work.over_spots;
     default: return work.whole;
     }
@@ -49,7 +51,7 @@ template <class Set> uint64_t perform(Set &set, const Workload &work, int operat
     case SAVE: for (size_t i = 0; i < work.whole.size(); i++) output.length = set.save(output.bytes); break;
     case LOAD: for (size_t i = 0; i < work.whole.size(); i++) set.load(output.bytes, output.length); break;
     case FILL: for (size_t i = 0; i < work.whole.size(); i++) set.fill(work.ascending); break;
-    case LIST: case LIST_WHOLE: return listed(set, windows_of(work, operation), output.codes);
+    case LIST_SMALL: case LIST_MEDIUM: case LIST_WHOLE: return listed(set, windows_of(work, operation), output.codes);
     default: for (Window window : windows_of(work, operation)) found += set.count(window);
     }
     return found;

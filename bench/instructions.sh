@@ -13,7 +13,7 @@ instructions() {
     echo "$said" "$(awk '/^(totals|summary):/ { total = $2 } END { print total }' "$file")"
 }
 
-# row NAME FUNCTION PANEL UNIT TARGET3 TARGET8: a call's instructions; with UNIT pixel, those for each pixel of the register
+# row NAME FUNCTION PANEL UNIT [TARGET3 TARGET8]: a call's instructions; with UNIT pixel, those for each pixel of the register
 row() {
     for k in 3 8; do
         target=$5
@@ -21,7 +21,8 @@ row() {
         counted=$(instructions "$1" "$2" "$3" "$k") || exit 1
         echo "$counted" | awk -v name="$1" -v panel="$3" -v unit="$4" -v k="$k" -v target="$target" -v pixels="$PIXELS" '
             { each = $5 / $1; if (unit == "pixel") each /= pixels
-              printf "%-11s %-8s %2d %10.1f per %-6s %8d %6.2f %9.1f\n", name, panel, k, each, unit, target, each / target, $3 / $1 }'
+              beside = target ? sprintf("%8d %6.2f", target, each / target) : sprintf("%8s %6s", "", "")
+              printf "%-11s %-8s %2d %10.1f per %-6s %s %9.1f\n", name, panel, k, each, unit, beside, $3 / $1 }'
     done
 }
 
@@ -42,7 +43,12 @@ for panel in spread crowded; do
     row clear pk_clear $panel call 590 430
     row ask pk_ask $panel call 400 300
     row count-all pk_count $panel pixel 21 12
+    row list-all pk_list $panel pixel
     row save pk_save $panel pixel 28 20
     fill_row $panel
 done
 row count-spot pk_count crowded call 13600 11500
+row count-256 pk_count crowded call
+row list-256 pk_list crowded call
+row count-16 pk_count spread call
+row list-16 pk_list spread call

@@ -25,7 +25,7 @@
 
 /* The version; the Makefile takes it from here. A new MAJOR gives the shared library a new name, so no program meets one that it was not
    linked for. */
-#define PK_VERSION "1.3.0"
+#define PK_VERSION "1.3.1"
 #define PK_VERSION_MAJOR 1
 #define PK_VERSION_MINOR 3
 #define PK_VERSION_PATCH 0

@@ -16,7 +16,7 @@ import os
 from typing import NamedTuple
 
 # that of include/pkreg.h; the library is opened by the name that goes with its first number
-__version__ = "1.3.0"
+__version__ = "1.3.1"
 
 MEANINGS = {
     1: "m, k or most is beyond its limits: m is 1 to 16, k 2 to 16, most 1 to 65535",

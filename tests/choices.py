@@ -33,7 +33,7 @@ def pixel(random, model):
 
 
 def window(random, model):
-    """A window: the panel, one pixel, between two pixels, reversed, over the panel's edges, or off it."""
+    """A window: the panel, one pixel, between two pixels, reversed, about a block, over the panel's edges, or off it."""
     side, kind = 2**model.order, random.random()
     if kind < 0.2:
         return 0, 0, side - 1, side - 1
@@ -42,9 +42,19 @@ def window(random, model):
     (xa, ya), (xb, yb) = pixel(random, model), pixel(random, model)
     if kind < 0.3:
         return xa, ya, xb, yb
-    if kind < 0.4:
+    if kind < 0.35:
         return xa, ya, xa, ya
+    if kind < 0.55:
+        return about_block(random, model, xa, ya)
     return min(xa, xb), min(ya, yb), max(xa, xb), max(ya, yb)
+
+
+def about_block(random, model, x, y):
+    """The square of a block that holds the pixel, each side of it moved by one pixel or left: just inside the window, or just over its edge."""
+    level = random.randint(0, model.order)
+    low = [min(max((value >> level << level) + random.choice((-1, 0, 0, 0, 1)), 0), FAR) for value in (x, y)]
+    high = [(value >> level << level) + 2**level - 1 + random.choice((-1, 0, 0, 0, 1)) for value in (x, y)]
+    return *low, *(min(max(first, last), FAR) for first, last in zip(low, high))
 
 
 def over_edges(random, model):

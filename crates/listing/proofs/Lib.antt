@@ -1,3 +1,4 @@
 pub mod WrittenAt
 pub mod Lists
+pub mod BlockLists
 pub mod ListEnds

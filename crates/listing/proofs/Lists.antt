@@ -1,54 +1,58 @@
--- The window walk that writes what it finds.
+-- The walks that write what they find.
 use Prim.Native.Nat.{ℕ, _+_, _%_, _^_, _≤_, _<_}
 use native.Mathlib.Omega.{arith}
 use mathlib.Core.Path.{_≡_, refl, ap, sym, _∙_}
 use mathlib.Core.Bool.{Bool, true, false}
 use mathlib.Core.List.{List}
-use lib.ListN.{length, set, length-set}
+use lib.ListN.{length, length-append, set, length-set}
 use Rattle.pktree.specs.Elements.{Forest, empty, pixel, _⧺_}
-use Rattle.pktree.specs.Tree.{pixels}
-use Rattle.pktree.specs.Window.{Window, found}
-use Rattle.measures.specs.Layout.{LayoutFits}
-use Rattle.store.specs.declared.elements.Element.{Element}
-use Rattle.store.specs.declared.elements.Element.the-variants.{Block}
-use Rattle.store.specs.declared.opening.Opening.{Opening}
-use Rattle.store.specs.declared.opening.Opening.the-variants.{Damaged}
-use Rattle.walks.specs.Entered.{Entered}
-use Rattle.walks.proofs.Walks.{Walk, ElementWalked, InLoop, never-barred, walked-child, loop-inside, loop-open}
-use Rattle.query.specs.declared.count.RangeQuery.{RangeQuery}
-use Rattle.query.specs.declared.count.Sum.{Sum}
+use Rattle.pktree.specs.Window.{Ordered}
 use Rattle.query.specs.declared.window.Corners.{Corners}
-use Rattle.query.specs.Corners.{windowBetween, PixelTested, BlockTested}
-use Rattle.query.proofs.WindowParts.{found-join, found-in-join, opened-join}
-use Rattle.query.proofs.SeenParts.{pixel-outside, pixel-inside, child-skipped, child-opened}
-use Rattle.query.specs.Counting.{tooMany}
-use Rattle.query.proofs.Counts.{count-walk, outside-not-counted, inside-counted, skipped-counts, opened-counts, pixel-counted, count-full, count-barred}
-use Rattle.listing.specs.Listing.{Lists, BlockListed, PixelListed}
+use Rattle.query.specs.Corners.{windowBetween, PixelTested}
+use Rattle.query.specs.Counting.{Findings, ofElements, ofAll}
+use Rattle.query.proofs.Findings.{Additive, room-first, room-second, count-walk}
+use Rattle.query.proofs.SeenParts.{pixel-outside, pixel-inside}
+use Rattle.query.proofs.InsideCounts.{pixel-added}
+use Rattle.query.proofs.Counts.{outside-not-counted, inside-counted, pixel-counted}
+use Rattle.walks.proofs.Walks.{Walk}
+use Rattle.listing.specs.Listing.{Lists, CodeWritten, PixelListed}
 use Rattle.listing.proofs.WrittenAt.{written-none, written-one, written-join, length-written}
 
-lists-join : {range : RangeQuery} {s t u : List ℕ × ℕ × ℕ} {f g : Forest} → Lists range s f t → Lists range t g u → Lists range s (f ⧺ g) u
-lists-join {range} {s} {t} {u} {f} {g} p q =
+lists-join : {findings : Findings} {slots : ℕ} {s t u : List ℕ × ℕ × ℕ × ℕ} {f g : Forest} → Additive findings → Lists findings slots s f t → Lists findings slots t g u
+    → Lists findings slots s (f ⧺ g) u
+lists-join {findings} {slots} {s} {t} {u} {f} {g} add p q =
     record {
-      counts = count-walk .join (p .counts) (q .counts);
-      wrote = λ ordered few room fits.
-          let w : Window = windowBetween (range .corners) in
-          let n = found-in-join w f g in
-          let m = opened-join w f g in
-          let a = p .counts .says ordered (omega arith) (omega arith) in
-          let wf = p .wrote ordered (omega arith) (omega arith) (omega arith) in
-          let long : length (t .0) ≡ length (s .0) = ap length wf ∙ length-written (s .0) (s .1) (found w (pixels f)) (omega arith) in
-          let wg = q .wrote ordered (omega (arith, a .0)) (omega (arith, a .1)) (omega (arith, a .0)) in
-          wg ∙ rw (wf, a .0, found-join w f g) (written-join (s .0) (s .1) (found w (pixels f)) (found w (pixels g)) (omega arith));
+      counts = count-walk add .join (p .counts) (q .counts);
+      wrote = λ room fits.
+          let l = ap length (add .codes-join f g) ∙ length-append (findings .codes f) (findings .codes g) in
+          let a = p .counts .says (room-first add f g room) in
+          let wf = p .wrote (room-first add f g room) (omega (arith, l)) in
+          let long : length (t .0) ≡ length (s .0) = ap length wf ∙ length-written (s .0) (s .1) (findings .codes f) (omega (arith, l)) in
+          let wg = q .wrote (room-second add f g room a) (omega (arith, l, a .found-is, long)) in
+          wg ∙ rw (wf, a .found-is, add .codes-join f g) (written-join (s .0) (s .1) (findings .codes f) (findings .codes g) (omega (arith, l)));
     }
 
-pub list-walk : {range : RangeQuery} → Walk (Lists range)
-list-walk = record { none = λ s. record { counts = count-walk .none (s .1, s .2); wrote = λ ordered few room fits. sym (written-none (s .0) (s .1)) }; join = lists-join }
+pub list-walk : {findings : Findings} {slots : ℕ} → Additive findings → Walk (Lists findings slots)
+list-walk add =
+    record { none = λ s. record { counts = count-walk add .none (s .1, s .2, s .3); wrote = λ room fits. rw (add .no-codes) (sym (written-none (s .0) (s .1))) }; join = lists-join add }
 
-pub all-are : {after o : List ℕ} {n m x y : ℕ} → o ≡ after → x ≡ n → y ≡ m → _≡_ {A = List ℕ × ℕ × ℕ} (o, x, y) (after, n, m)
-all-are e f g = rw (e, f, g)
+pub all-are : {after o : List ℕ} {n m x p q r : ℕ} → o ≡ after → p ≡ n → q ≡ m → r ≡ x → _≡_ {A = List ℕ × ℕ × ℕ × ℕ} (o, p, q, r) (after, n, m, x)
+all-are e f g h = rw (e, f, g, h)
 
-pub pixel-listed : {range : RangeQuery} {c n m r : ℕ} {before after : List ℕ} → PixelListed (range .corners) c n before after r → Lists range (before, n, m) (pixel c empty) (after, r, m)
-pixel-listed p = record { counts = pixel-counted (p .counted); wrote = λ ordered few room fits. p .wrote ordered fits }
+-- one code
+module _ {code at : ℕ} {before : List ℕ} where
+  pub no-room : {i r : ℕ} → i ≡ at → length before ≤ i → r ≡ (at + 1) % 2 ^ 32 → CodeWritten code at before before r
+  no-room is full sum = record { counted = λ few. omega (arith, sum); long = refl; wrote = λ fits. absurd (omega (arith, fits)) }
+
+  pub code-written : {i r : ℕ} → i ≡ at → i < length before → r ≡ (at + 1) % 2 ^ 32 → CodeWritten code at before (set before i code) r
+  code-written is room sum = record { counted = λ few. omega (arith, sum); long = length-set before _ code; wrote = λ fits. rw is (written-one before at code (omega arith)) }
+
+pub code-added : {slots c n m r : ℕ} {before after : List ℕ} → CodeWritten c n before after r → Lists ofAll slots (before, n, m, 0) (pixel c empty) (after, r, m, 0)
+code-added w =
+    record {
+      counts = record { says = λ room. record { found-is = w .counted (room .few-found); opened-is = omega arith; tested-is = omega arith } };
+      wrote = λ room fits. w .wrote fits;
+    }
 
 -- one pixel
 module _ {corners : Corners} {c at : ℕ} {before : List ℕ} {b : Bool} (tested : PixelTested corners c b) where
@@ -60,66 +64,14 @@ module _ {corners : Corners} {c at : ℕ} {before : List ℕ} {b : Bool} (tested
         wrote = λ o fits. rw (pixel-outside (windowBetween corners) c (sym (tested .says o) ∙ e) .none-found) (sym (written-none before at));
       }
 
-  pub inside-no-room : {i r : ℕ} → b ≡ true → i ≡ at → length before ≤ i → r ≡ (at + 1) % 2 ^ 32 → PixelListed corners c at before before r
-  inside-no-room e is full sum =
+  pub inside-listed : {after : List ℕ} {r : ℕ} → b ≡ true → CodeWritten c at before after r → PixelListed corners c at before after r
+  inside-listed e w =
       record {
-        counted = inside-counted tested e sum;
-        long = refl;
-        wrote = λ o fits. absurd (omega (arith, fits, ap length (pixel-inside (windowBetween corners) c (sym (tested .says o) ∙ e))));
+        counted = record { says = λ o few. let one = ap length (pixel-inside (windowBetween corners) c (sym (tested .says o) ∙ e)) in omega (arith, one, w .counted (omega (arith, one, few))) };
+        long = w .long;
+        wrote = λ o. rw (pixel-inside (windowBetween corners) c (sym (tested .says o) ∙ e)) (w .wrote);
       }
 
-  pub inside-listed : {i r : ℕ} → b ≡ true → i ≡ at → i < length before → r ≡ (at + 1) % 2 ^ 32 → PixelListed corners c at before (set before i c) r
-  inside-listed e is room sum =
-      record {
-        counted = inside-counted tested e sum;
-        long = length-set before _ c;
-        wrote = λ o fits. rw (is, pixel-inside (windowBetween corners) c (sym (tested .says o) ∙ e)) (written-one before at c (omega arith));
-      }
-
--- one block
-module _ {range : RangeQuery} {words : List ℕ} {element : Element} {level n m s i c : ℕ} {before : List ℕ} {b : Bool} (e : element ≡ Block s i c)
-    (tested : BlockTested (range .corners) i c b) where
-  pub block-skipped : b ≡ false → ElementWalked (Lists range) (range .layout) words level element (before, n, m) (before, n, m)
-  block-skipped apart =
-      walked-child e (λ k at fs low child.
-      record {
-        counts = skipped-counts tested apart low child;
-        wrote = λ ordered few room fits.
-            rw (child-skipped (windowBetween (range .corners)) child ordered (sym (tested .says (omega (arith, child .below)) (child .view .aligned) ordered) ∙ apart) .none-found)
-            (sym (written-none before n));
-      })
-
-  pub block-listed : {after : List ℕ} {r : Sum} → b ≡ true → BlockListed range words level s i c before after n m r
-      → ElementWalked (Lists range) (range .layout) words level element (before, n, m) (after, r .found, r .opened)
-  block-listed shares meets =
-      walked-child e (λ k at fs low child.
-      let in-it = meets .inside .right k fs (child .below) (child .view) in
-      record {
-        counts = opened-counts tested shares low child (in-it .counts);
-        wrote = λ ordered few room fits.
-            let one = child-opened (windowBetween (range .corners)) child ordered (sym (tested .says (omega (arith, child .below)) (child .view .aligned) ordered) ∙ shares) in
-            let l = ap length (one .same-found) in
-            rw (one .same-found) (in-it .wrote ordered (omega (arith, l)) (omega (arith, one .one-opened)) (omega (arith, l)));
-      })
-
-module _ {range : RangeQuery} {words : List ℕ} {above slot level code found opened : ℕ} {before : List ℕ} where
-  -- as many blocks were opened as there are slots
-  pub list-full : {n : ℕ} {r : Sum} → n ≡ opened → range .layout .slots ≤ n → r ≡ tooMany → LayoutFits (range .layout) words
-      → BlockListed range words above slot level code before before found opened r
-  list-full same full is fits =
-      let counted = count-full {range = range} {found = found} same full is fits in
-      record {
-        inside = record { right = λ k es low view. record { counts = counted .inside .right k es low view; wrote = λ ordered few room fits. absurd (omega arith) } };
-        long = refl;
-        closed = counted .closed;
-      }
-
-  pub list-barred : {o : Opening} {r : Sum} → o ≡ Damaged → r ≡ tooMany → Entered (range .layout) words above slot level code o → LayoutFits (range .layout) words
-      → BlockListed range words above slot level code before before found opened r
-  list-barred e is entered fits =
-      record { inside = record { right = λ k es low view. absurd (never-barred e entered fits low view) }; long = refl; closed = count-barred {range = range} {found = found} {opened = opened} e is entered fits .closed }
-
-  pub list-whole : {count i n m : ℕ} {part after : List ℕ}
-      → InLoop (Lists range) (range .layout) words above slot level code count part i (before, found, opened + 1) (after, n, m) → count ≤ i → length after ≡ length before
-      → BlockListed range words above slot level code before after found opened (record { found = n; opened = m })
-  list-whole to end long = record { inside = loop-inside to end; long = long; closed = λ shut. absurd (loop-open to shut) }
+pub pixel-listed : (corners : Corners) {slots c n m x y r : ℕ} {before after : List ℕ} → Ordered (windowBetween corners) → y ≡ (x + 1) % 2 ^ 32 → PixelListed corners c n before after r
+    → Lists (ofElements (windowBetween corners)) slots (before, n, m, x) (pixel c empty) (after, r, m, y)
+pixel-listed corners ordered one p = record { counts = pixel-counted corners ordered one (p .counted); wrote = λ room fits. p .wrote ordered fits }

@@ -1,51 +1,91 @@
-// Listing: the walk of count, which also writes the codes that it finds.
+// Listing: the walks of count, which also write the codes that they find.
 ghost use Prim.Native.Nat.{_≤_};
 ghost use lib.ListN.{length};
 ghost use mathlib.Core.Path.{_≡_};
-ghost use Rattle.measures.specs.Sizes.{UsableStore, sizesOf};
+ghost use Rattle.pktree.specs.Window.{Ordered};
+ghost use Rattle.measures.specs.Layout.{LayoutFits};
+ghost use Rattle.measures.specs.Sizes.{UsableStore, sizesOf, panelOf};
 ghost use Rattle.promises.specs.Effect.{effect};
 ghost use Rattle.promises.specs.Calls as calls;
 ghost use Rattle.answers.specs.Answer.{listAnswer};
-ghost use Rattle.listing.specs.Listing.{PixelListed, BlockListed, RootListed, CountedBefore};
-ghost use Rattle.query.specs.Corners.{windowOf};
-ghost use Rattle.measures.specs.Layout.{LayoutFits};
+ghost use Rattle.query.specs.Corners.{windowOf, windowBetween, PartCorners};
+ghost use Rattle.listing.specs.Listing.{CodeWritten, PixelListed, InsideListed, BlockListed, RootListed, CountedBefore};
 use answers::Counting;
 use answers::Listing;
+use measures::sizes::Layout;
 use measures::sizes::Sizes;
 use measures::sizes::layout_of;
 use measures::slots::LEVEL_ABOVE_ROOT;
+use measures::slots::MORE_THAN_SLOTS;
 use measures::slots::wide;
-use query::count::RangeQuery;
-use query::count::Sum;
-use query::count::count;
-use query::count::too_many;
-use query::count::within;
+use query::count::count_part;
+use query::walk::RangeQuery;
+use query::walk::Sum;
+use query::walk::open_next;
+use query::walk::within;
 use query::window::Corners;
 use query::window::Part;
 use query::window::Window;
 use query::window::has_pixel;
+use query::window::lies_inside;
 use query::window::meets;
 use query::window::part_on;
 use std::num::wrapping_add_u32;
 use store::elements::Element;
 use store::elements::element_at;
 use store::opening::Opening;
-use walks::enter;
 use walks::part_of;
 
-// A pixel that the window has is written at the index of its turn; the output has room for it unless words are damaged.
-fn list_pixel(corners: Corners, code: u32, output: &mut [u32], found: u32) -> u32
-    ensures { λ r. ⌜ PixelListed corners code found (now (output .entry)) (now (output .exit)) r ⌝ }
+// A found code is written at the index of its turn; the output has room for it unless words are damaged.
+fn write_code(code: u32, output: &mut [u32], found: u32) -> u32
+    ensures { λ r. ⌜ CodeWritten code found (now (output .entry)) (now (output .exit)) r ⌝ }
 {
-    if !has_pixel(corners, code) {
-        return found;
-    }
     let at = wide(found);
     if output.len() <= at {
         return wrapping_add_u32(found, 1);
     }
     output[at] = code;
     wrapping_add_u32(found, 1)
+}
+
+fn list_pixel(corners: Corners, code: u32, output: &mut [u32], found: u32) -> u32
+    ensures { λ r. ⌜ PixelListed corners code found (now (output .entry)) (now (output .exit)) r ⌝ }
+{
+    if !has_pixel(corners, code) {
+        return found;
+    }
+    write_code(code, output, found)
+}
+
+// As count_inside, and the code of each pixel is written.
+fn list_inside(
+    store: &[u32],
+    layout: Layout,
+    above: u32,
+    slot: u32,
+    level: u32,
+    code: u32,
+    out: &mut [u32],
+    blocks: u32,
+    found: &mut u32,
+) -> u32
+    requires { ⌜ LayoutFits layout (now store) ⌝ }
+    ensures { λ r. ⌜ InsideListed layout (now (store .entry)) above slot level code (now (out .entry)) (now (out .exit)) (now (found .entry)) blocks (now (found .exit)) r ⌝ }
+{
+    let Opening::Elements(count) = open_next(store, layout, above, slot, level, code, blocks) else {
+        return MORE_THAN_SLOTS;
+    };
+    let part = part_of(store, layout, slot);
+    let mut opened = blocks + 1;
+    for i in 0..count {
+        match element_at(part, i) {
+            Element::Pixel(c) => *found = write_code(c, out, *found),
+            Element::Block(s, l, c) => {
+                opened = list_inside(store, layout, level, s, l, c, out, opened, found);
+            }
+        }
+    }
+    opened
 }
 
 // As count_block, and each found code is written once, in ascending order, since a block's elements ascend.
@@ -56,43 +96,46 @@ fn list_block(
     slot: u32,
     level: u32,
     code: u32,
-    output: &mut [u32],
-    pixels: u32,
+    out: &mut [u32],
     blocks: u32,
-) -> Sum
-    requires { ⌜ LayoutFits (range .layout) (now store) ⌝ }
-    ensures { λ r. ⌜ BlockListed range (now (store .entry)) above slot level code (now (output .entry)) (now (output .exit)) pixels blocks r ⌝ }
+    found: &mut u32,
+    tested: &mut u32,
+) -> u32
+    requires { ⌜ LayoutFits (range .layout) (now store) × Ordered (windowBetween (range .corners)) ⌝ }
+    ensures { λ r. ⌜ BlockListed range (now (store .entry)) above slot level code (now (out .entry)) (now (out .exit)) (now (found .entry), blocks, now (tested .entry)) (now (found .exit), r, now (tested .exit)) ⌝ }
 {
-    if range.layout.slots <= wide(blocks) {
-        return too_many();
+    let layout = range.layout;
+    let corners = range.corners;
+    if lies_inside(corners, level, code) {
+        return list_inside(store, layout, above, slot, level, code, out, blocks, found);
     }
-    let Opening::Elements(count) = enter(store, range.layout, above, slot, level, code) else {
-        return too_many();
+    let Opening::Elements(count) = open_next(store, layout, above, slot, level, code, blocks) else {
+        return MORE_THAN_SLOTS;
     };
-    let part = part_of(store, range.layout, slot);
-    let mut found = pixels;
+    let part = part_of(store, layout, slot);
     let mut opened = blocks + 1;
     for i in 0..count {
+        *tested = wrapping_add_u32(*tested, 1);
         match element_at(part, i) {
-            Element::Pixel(c) => found = list_pixel(range.corners, c, output, found),
-            Element::Block(s, inner, c) => {
-                if meets(range.corners, inner, c) {
-                    let sum = list_block(store, range, level, s, inner, c, output, found, opened);
-                    found = sum.found;
-                    opened = sum.opened;
+            Element::Pixel(c) => *found = list_pixel(corners, c, out, *found),
+            Element::Block(s, l, c) => {
+                if meets(corners, l, c) {
+                    opened = list_block(store, range, level, s, l, c, out, opened, found, tested);
                 }
             }
         }
     }
-    Sum { found, opened }
+    opened
 }
 
 // The walk from the root into the first n words; those past them are not lent.
 fn list_root(store: &[u32], range: RangeQuery, order: u32, output: &mut [u32], n: usize) -> Sum
-    requires { ⌜ LayoutFits (range .layout) (now store) × (n ≤ length (now output)) ⌝ }
+    requires { ⌜ (LayoutFits (range .layout) (now store) × Ordered (windowBetween (range .corners))) × (n ≤ length (now output)) ⌝ }
     ensures { λ r. ⌜ RootListed range (now (store .entry)) order n (now (output .entry)) (now (output .exit)) r ⌝ }
 {
-    list_block(
+    let mut found = 0;
+    let mut tested = 0;
+    let opened = list_block(
         store,
         range,
         LEVEL_ABOVE_ROOT,
@@ -101,27 +144,27 @@ fn list_root(store: &[u32], range: RangeQuery, order: u32, output: &mut [u32], n
         0,
         &mut output[..n],
         0,
-        0,
-    )
+        &mut found,
+        &mut tested,
+    );
+    Sum {
+        found,
+        opened,
+        tested,
+    }
 }
 
-// So many pixels were counted in the window's part on the panel: they are written, where the output has room for them.
+// So many pixels were counted in the part between these corners: they are written, where the output has room for them.
 fn list_counted(
     store: &[u32],
     sizes: Sizes,
-    window: Window,
+    corners: Corners,
     output: &mut [u32],
     found: u32,
 ) -> Listing
-    requires { ⌜ (UsableStore (now store) × (sizes ≡ sizesOf (now store))) × CountedBefore (now store) (windowOf window) found ⌝ }
-    ensures { λ r. ⌜ calls.Lists (now (store .entry)) (windowOf window) (effect (listAnswer r) (now (output .entry)) (now (output .exit))) ⌝ }
+    requires { ⌜ ((UsableStore (now store) × (sizes ≡ sizesOf (now store))) × PartCorners (panelOf sizes) corners) × CountedBefore (now store) (windowBetween corners) found ⌝ }
+    ensures { λ r. ⌜ calls.ListsIn (now (store .entry)) (windowBetween corners) (effect (listAnswer r) (now (output .entry)) (now (output .exit))) ⌝ }
 {
-    let Part::Between(corners) = part_on(sizes, window) else {
-        return Listing::Found {
-            found: 0,
-            opened: 0,
-        };
-    };
     let n = wide(found);
     if output.len() < n {
         return Listing::Short(found);
@@ -140,8 +183,16 @@ pub fn list(store: &[u32], sizes: Sizes, window: Window, output: &mut [u32]) -> 
     requires { ⌜ UsableStore (now store) × (sizes ≡ sizesOf (now store)) ⌝ }
     ensures { λ r. ⌜ calls.Lists (now (store .entry)) (windowOf window) (effect (listAnswer r) (now (output .entry)) (now (output .exit))) ⌝ }
 {
-    match count(store, sizes, window) {
-        Counting::Found { found, opened: _ } => list_counted(store, sizes, window, output, found),
+    let Part::Between(corners) = part_on(sizes, window) else {
+        return Listing::Found {
+            found: 0,
+            opened: 0,
+        };
+    };
+    match count_part(store, sizes, corners) {
+        Counting::Found { found, opened: _ } => {
+            list_counted(store, sizes, corners, output, found)
+        }
         Counting::Refused(refusal) => Listing::Refused(refusal),
     }
 }

@@ -1,7 +1,8 @@
 -- An aligned block of 4 ^ i codes is an aligned square of side 2 ^ i.
-use mathlib.Core.Path.{_≡_, refl, ap, _∙_}
+use mathlib.Core.Path.{_≡_, refl, ap, sym, _∙_}
 use Prim.Native.Nat.{ℕ, zero, suc, _+_, _-_, _*_, _/_, _%_, _^_, _≤_, _<_}
-use native.Mathlib.Nat.{pow-suc, pow-le-pow-right, div-div-eq-div-mul, not-suc-le-zero, le-of-suc-le-suc, lt-of-not-le, sub-zero, div-one, suc-sub-suc}
+use native.Mathlib.Nat.{pow-suc, one-le-pow, zero-lt-suc, suc-mul, div-eq-of-lt-le, mod-eq-of-lt, pow-le-pow-right, div-div-eq-div-mul, not-suc-le-zero, le-of-suc-le-suc, lt-of-not-le, sub-zero, div-one, suc-sub-suc}
+use native.Mathlib.Decide.{decLt}
 use native.Mathlib.Omega.{arith}
 use lib.Pow.{pow-add}
 use Rattle.morton.specs.Code.{gatherBits, interleave}
@@ -18,6 +19,27 @@ four-pow (suc i) =
 -- no block has more than 2 ^ 32 codes
 pub size-to : (level : ℕ) → level ≤ 16 → 4 ^ level ≤ 4294967296
 size-to level h = pow-le-pow-right (omega arith) h
+
+-- at level 16 none of 32 bits is shifted out
+bits-left : (level : ℕ) → 1 ≤ level → level ≤ 16 → (32 - 2 * (level % 16)) % 32 ≡ 32 - 2 * level
+bits-left level from to = go (decLt level 16)
+  where
+    go : Dec (level < 16) → (32 - 2 * (level % 16)) % 32 ≡ 32 - 2 * level
+    go (yes h) = let e : level % 16 ≡ level = mod-eq-of-lt h in rw e (mod-eq-of-lt (omega arith))
+    go (no h) = let e : level ≡ 16 = omega arith in rw e
+
+-- of 32 set bits, those that a shift leaves are one less than the size of a block
+pub low-bits : (level : ℕ) → 1 ≤ level → level ≤ 16 → 0xffff_ffff / 2 ^ ((32 - 2 * (level % 16)) % 32) ≡ 4 ^ level - 1
+low-bits level from to =
+    let left = bits-left level from to in
+    let whole : 2 ^ (2 * level) * 2 ^ (32 - 2 * level) ≡ 2 ^ (2 * level + (32 - 2 * level)) = sym (pow-add 2 (2 * level) (32 - 2 * level)) in
+    let all : 2 * level + (32 - 2 * level) ≡ 32 = omega arith in
+    let bits : 4 ^ level * 2 ^ (32 - 2 * level) ≡ 2 ^ 32 = rw (← four-pow level, whole, all) in
+    let one : 4 ^ level ≡ suc (4 ^ level - 1) = omega (arith, one-le-pow level 4 (zero-lt-suc 3)) in
+    let less : 2 ^ 32 ≡ suc (4 ^ level - 1) * 2 ^ (32 - 2 * level) = sym bits ∙ ap (λ (n : ℕ). n * 2 ^ (32 - 2 * level)) one in
+    let side = one-le-pow (32 - 2 * level) 2 (zero-lt-suc 1) in
+    let split = suc-mul (4 ^ level - 1) (2 ^ (32 - 2 * level)) in
+    rw left (div-eq-of-lt-le (2 ^ (32 - 2 * level)) (omega (arith, less, split, side)) (omega (arith, less, split, side)))
 
 -- codes in one block are in one larger block
 pub block-up : (a b : ℕ) {i j : ℕ} → i ≤ j → a / 4 ^ i ≡ b / 4 ^ i → a / 4 ^ j ≡ b / 4 ^ j

@@ -48,7 +48,7 @@ ascends-le n f up a b hb h = go (decLt a b)
     go (yes p) = omega (arith, up a b hb p)
     go (no p) = let e : a ≡ b = omega arith in omega (arith, ap f e)
 
-same-order : (n : ℕ) (f : ℕ → ℕ) → Ascends n f → (a b : ℕ) → a < 2 ^ n → b < 2 ^ n → leb (f a) (f b) ≡ leb a b
+pub same-order : (n : ℕ) (f : ℕ → ℕ) → Ascends n f → (a b : ℕ) → a < 2 ^ n → b < 2 ^ n → leb (f a) (f b) ≡ leb a b
 same-order n f up a b ha hb = go (decLt b a)
   where
     go : Dec (b < a) → leb (f a) (f b) ≡ leb a b

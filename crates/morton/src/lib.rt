@@ -1,8 +1,11 @@
 ghost use mathlib.Core.Path.{_≡_};
 ghost use Prim.Native.Nat.{_*_, _/_, _^_, _≤_, _<_};
+ghost use lib.Dec.{leb};
 ghost use Rattle.morton.specs.Code.{spreadBits, gatherBits, codeOf, xOf, yOf};
 ghost use Rattle.morton.specs.Coordinate.{Between, Coordinate, largestSide};
 ghost use Rattle.morton.specs.CommonLevel.{CommonLevel};
+ghost use Rattle.morton.specs.LastCode.{LastCode};
+use std::num::wrapping_add_u32;
 use std::num::wrapping_sub_u32;
 
 // Each bit of a coordinate moves to twice its place: four halvings of the fields, as 01's last section asks.
@@ -64,6 +67,26 @@ pub fn y_between(first: u32, last: u32, code: u32) -> bool
     ensures { λ r. ⌜ Between (yOf first) (yOf last) (yOf code) r ⌝ }
 {
     is_between(first & 0xaaaa_aaaa, last & 0xaaaa_aaaa, code & 0xaaaa_aaaa)
+}
+
+// Two tests that need no order of what they compare.
+pub fn x_at_most(a: u32, b: u32) -> bool
+    ensures { λ r. ⌜ r ≡ leb (xOf a) (xOf b) ⌝ }
+{
+    (a & 0x5555_5555) <= (b & 0x5555_5555)
+}
+
+pub fn y_at_most(a: u32, b: u32) -> bool
+    ensures { λ r. ⌜ r ≡ leb (yOf a) (yOf b) ⌝ }
+{
+    (a & 0xaaaa_aaaa) <= (b & 0xaaaa_aaaa)
+}
+
+// The last code of the block of this level with this code: all low bits are set, at level 16 all 32.
+pub fn last_code(code: u32, level: u32) -> u32
+    ensures { λ r. ⌜ LastCode level code r ⌝ }
+{
+    wrapping_add_u32(code, 0xffff_ffff >> ((32 - 2 * (level % 16)) % 32))
 }
 
 // How many codes a block of this level has: 4^16 is more than 32 bits hold.

@@ -19,4 +19,6 @@ pub mod Images
 pub mod InTree
 pub mod Windows
 pub mod Parts
+pub mod WindowParts
+pub mod Insides
 pub mod Samples

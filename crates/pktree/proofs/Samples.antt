@@ -1,8 +1,9 @@
 -- 01 "Sample panels": the starred lines, by computation.
 use mathlib.Core.Path.{refl}
-use Rattle.morton.specs.Code.{interleave}
+use Rattle.morton.specs.Code.{interleave, gatherBits}
 use Rattle.pktree.specs.Elements.{gather}
-use Rattle.pktree.specs.Samples.{StarredLines}
+use Rattle.pktree.specs.Window.{someFrom, everyFrom}
+use Rattle.pktree.specs.Samples.{StarredLines, TestedSingly}
 
 pub starred-lines : StarredLines
 unfolding gather interleave
@@ -22,3 +23,7 @@ starred-lines =
       code-27 = refl;
       code-last = refl;
     }
+
+pub tested-singly : TestedSingly
+unfolding gather interleave gatherBits someFrom everyFrom
+tested-singly = record { whole-panel = refl; without-last-column = refl; one-pixel = refl }

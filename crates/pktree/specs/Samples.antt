@@ -1,4 +1,4 @@
--- 01 "Sample panels": the starred lines, of the definitions, in one theorem.
+-- 01 "Sample panels": the starred lines, of the definitions, in one theorem; and 02, P4 on one of them.
 use Prim.Native.Nat.{ℕ}
 use mathlib.Core.Path.{_≡_}
 use mathlib.Core.List.{List, [], _∷_}
@@ -7,6 +7,7 @@ use Rattle.pktree.specs.Panel.{Panel}
 use Rattle.pktree.specs.PixelSet.{member, added, removed}
 use Rattle.pktree.specs.Elements.{size, gather}
 use Rattle.pktree.specs.Tree.{tree}
+use Rattle.pktree.specs.Window.{Window, testedByWindow}
 use Rattle.pktree.specs.Entries.{Entry, entry, entries}
 
 -- m = 3, k = 3 unless said
@@ -28,6 +29,10 @@ second-panel = 0 ∷ 1 ∷ 4 ∷ []
 
 abbrev third-panel : List ℕ
 third-panel = 0 ∷ 1 ∷ 16 ∷ 17 ∷ 32 ∷ 33 ∷ 48 ∷ 49 ∷ []
+
+-- a window by its corners
+abbrev between : ℕ → ℕ → ℕ → ℕ → Window
+between x0 y0 x1 y1 = record { x0 = x0; y0 = y0; x1 = x1; y1 = y1 }
 
 -- the number of elements of the block of this level and code
 abbrev elementsOf : List ℕ → ℕ → ℕ → ℕ
@@ -52,3 +57,9 @@ pub record StarredLines : Type 0 where
   pub small-full : entriesOf small (0 ∷ 1 ∷ 2 ∷ 3 ∷ []) ≡ entry 1 0 ∷ entry 0 0 ∷ entry 0 1 ∷ entry 0 2 ∷ entry 0 3 ∷ []
   pub code-27 : codeOf 5 3 ≡ 27
   pub code-last : codeOf 65535 65535 ≡ 4294967295
+
+-- 02, P4, of the first panel: its root has two elements, of which one is the block of level 1 at code 0, with three
+pub record TestedSingly : Type 0 where
+  pub whole-panel : testedByWindow (between 0 0 7 7) (tree panel (member first-panel)) ≡ 0
+  pub without-last-column : testedByWindow (between 0 0 6 7) (tree panel (member first-panel)) ≡ 2
+  pub one-pixel : testedByWindow (between 0 0 0 0) (tree panel (member first-panel)) ≡ 5

@@ -1,13 +1,14 @@
--- 01 "Calls": which pixels a window has, and which blocks a call opens; 02, P3: the part of a window on the panel.
+-- 01 "Calls": which pixels a window has, and which blocks a call opens; 02, P3: the part of a window on the panel; 02, P4: which
+-- blocks lie wholly inside a window, and how many elements a walk tests singly.
 use Prim.Native.Nat.{ℕ, zero, suc, _+_, _-_, _^_, _≤_, min}
-use mathlib.Core.Bool.{Bool, false, _&&_, _||_}
+use mathlib.Core.Bool.{Bool, true, false, not, _&&_, _||_}
 use mathlib.Core.List.{List}
 use lib.Dec.{ltb, leb}
 use lib.ListN.{length}
 use Rattle.morton.specs.Code.{xOf, yOf}
-use Rattle.pktree.specs.Lists.{select}
+use Rattle.pktree.specs.Lists.{select, total}
 use Rattle.pktree.specs.Panel.{Panel}
-use Rattle.pktree.specs.Elements.{Forest}
+use Rattle.pktree.specs.Elements.{Forest, size}
 use Rattle.pktree.specs.Tree.{BlockOf, blocks}
 
 pub record Window : Type 0 where
@@ -43,6 +44,19 @@ someFrom test (suc n) from = test from || someFrom test n (suc from)
 abbrev pub sharesPixel : Window → BlockOf → Bool
 sharesPixel window b = someFrom (inWindow window) (4 ^ b .level) (b .code)
 
+-- every code of the n codes from `from` on passes the test
+unfoldable pub everyFrom : (ℕ → Bool) → ℕ → ℕ → Bool
+everyFrom test zero from = true
+everyFrom test (suc n) from = test from && everyFrom test n (suc from)
+
+-- 02, P4: every pixel of the block lies in the window
+abbrev pub whollyInside : Window → BlockOf → Bool
+whollyInside window b = everyFrom (inWindow window) (4 ^ b .level) (b .code)
+
+-- some pixel of it does, and not every one
+abbrev pub overEdge : Window → BlockOf → Bool
+overEdge window b = sharesPixel window b && not (whollyInside window b)
+
 abbrev pub holdsPixel : ℕ → BlockOf → Bool
 holdsPixel code b = leb (b .code) code && ltb code (b .code + 4 ^ b .level)
 
@@ -52,3 +66,7 @@ openedByWindow window t = length (select (sharesPixel window) (blocks t))
 
 abbrev pub openedByPixel : ℕ → Forest → ℕ
 openedByPixel code t = length (select (holdsPixel code) (blocks t))
+
+-- 02, P4: the number of elements that count and list test singly: those of the opened blocks that are not wholly inside
+abbrev pub testedByWindow : Window → Forest → ℕ
+testedByWindow window t = total (λ b. size (b .elements)) (select (overEdge window) (blocks t))

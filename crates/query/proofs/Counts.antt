@@ -1,42 +1,29 @@
--- The window walk that counts.
+-- The walk that counts a block that shares a pixel with the window.
 use Prim.Native.Nat.{ℕ, _+_, _%_, _^_, _≤_}
 use native.Mathlib.Omega.{arith}
 use mathlib.Core.Path.{_≡_, ap, sym, _∙_}
 use mathlib.Core.Bool.{Bool, true, false}
 use mathlib.Core.List.{List}
 use lib.ListN.{length}
-use Rattle.pktree.specs.Elements.{empty, pixel, block, unlabelled}
-use Rattle.measures.specs.Layout.{LayoutFits}
+use Rattle.pktree.specs.Elements.{Forest, empty, pixel, block, unlabelled}
+use Rattle.pktree.specs.Window.{Window, Ordered}
+use Rattle.pktree.proofs.WindowParts.{block-opened}
+use Rattle.pktree.proofs.Insides.{AllSeen}
+use Rattle.measures.specs.Layout.{LayoutFits, moreThanSlots}
 use Rattle.store.specs.Placed.{Placed}
-use Rattle.store.proofs.BlockView.{ChildView}
 use Rattle.store.specs.declared.elements.Element.{Element}
 use Rattle.store.specs.declared.elements.Element.the-variants.{Block}
 use Rattle.store.specs.declared.opening.Opening.{Opening}
 use Rattle.store.specs.declared.opening.Opening.the-variants.{Damaged}
-use Rattle.walks.specs.Entered.{Entered}
-use Rattle.walks.proofs.Walks.{Walk, ElementWalked, InLoop, never-barred, walked-child, loop-inside, loop-open}
-use Rattle.query.specs.declared.count.RangeQuery.{RangeQuery}
-use Rattle.query.specs.declared.count.Sum.{Sum}
+use Rattle.store.proofs.BlockView.{BlockView}
+use Rattle.walks.proofs.Walks.{ElementWalked, InLoop, walked-child, loop-inside, loop-open}
+use Rattle.query.specs.declared.walk.RangeQuery.{RangeQuery}
 use Rattle.query.specs.declared.window.Corners.{Corners}
-use Rattle.query.specs.Corners.{windowBetween, PixelTested, BlockTested}
-use Rattle.query.specs.Counting.{Counts, tooMany, BlockCounted, PixelCounted}
-use Rattle.query.proofs.WindowParts.{found-in-join, opened-join}
-use Rattle.query.proofs.SeenParts.{pixel-outside, pixel-inside, child-skipped, child-opened}
-
-pub count-walk : {range : RangeQuery} → Walk (Counts range)
-count-walk {range} =
-    record {
-      none = λ s. record { says = λ ordered few room. (omega arith, omega arith) };
-      join = λ {s} {t} {u} {f} {g} p q.
-          record {
-            says = λ ordered few room.
-                let n = found-in-join (windowBetween (range .corners)) f g in
-                let m = opened-join (windowBetween (range .corners)) f g in
-                let a = p .says ordered (omega arith) (omega arith) in
-                let b = q .says ordered (omega (arith, a .0)) (omega (arith, a .1)) in
-                (omega (arith, a .0, b .0), omega (arith, a .1, b .1));
-          };
-    }
+use Rattle.query.specs.Corners.{windowBetween, PixelTested, SharingTested, InsideTested}
+use Rattle.query.specs.Opened.{OpenedNext}
+use Rattle.query.specs.Counting.{ofBlocks, ofElements, ofAll, Room, Counts, PixelCounted, BlockCounted, InsideCounted}
+use Rattle.query.proofs.Openings.{never-barred}
+use Rattle.query.proofs.SeenParts.{pixel-outside, pixel-inside, shares-as-tested, skipped, all-seen, OverEdge, over-edge}
 
 module _ {corners : Corners} {c found : ℕ} {b : Bool} (tested : PixelTested corners c b) where
   pub outside-not-counted : b ≡ false → PixelCounted corners c found found
@@ -45,60 +32,103 @@ module _ {corners : Corners} {c found : ℕ} {b : Bool} (tested : PixelTested co
   pub inside-counted : {r : ℕ} → b ≡ true → r ≡ (found + 1) % 2 ^ 32 → PixelCounted corners c found r
   inside-counted e f = record { says = λ o few. let one = ap length (pixel-inside (windowBetween corners) c (sym (tested .says o) ∙ e)) in omega (arith, f, one) }
 
-pub numbers-are : {n m x y : ℕ} → x ≡ n → y ≡ m → _≡_ {A = ℕ × ℕ} (x, y) (n, m)
-numbers-are e f = rw (e, f)
+pub numbers-are : {n m x p q r : ℕ} → p ≡ n → q ≡ m → r ≡ x → _≡_ {A = ℕ × ℕ × ℕ} (p, q, r) (n, m, x)
+numbers-are e f g = rw (e, f, g)
 
-pub pixel-counted : {range : RangeQuery} {c n m r : ℕ} → PixelCounted (range .corners) c n r → Counts range (n, m) (pixel c empty) (r, m)
-pixel-counted p = record { says = λ ordered few room. (p .says ordered few, omega arith) }
+-- an element of a block over the window's edge: it is tested, and one test more is counted
+module _ (corners : Corners) {slots n m x y : ℕ} (ordered : Ordered (windowBetween corners)) (one : y ≡ (x + 1) % 2 ^ 32) where
+  pub pixel-counted : {c r : ℕ} → PixelCounted corners c n r → Counts (ofElements (windowBetween corners)) slots (n, m, x) (pixel c empty) (r, m, y)
+  pixel-counted p = record { says = λ room. record { found-is = p .says ordered (room .few-found); opened-is = omega arith; tested-is = omega (arith, one, room .few-tested) } }
 
--- a block that an element names, apart from the window or not
-module _ {range : RangeQuery} {words : List ℕ} {k level at n m s i c : ℕ} {fs : Placed} {b : Bool} (tested : BlockTested (range .corners) i c b) where
-  pub skipped-counts : b ≡ false → level ≤ 16 → ChildView k (range .layout .width) (range .layout .slots) words level at s i c fs
-      → Counts range (n, m) (block i c (unlabelled fs) empty) (n, m)
-  skipped-counts apart low child =
+  module _ {k width : ℕ} {words : List ℕ} {s i c : ℕ} {fs : Placed} {b : Bool} (view : BlockView k width slots words s i c fs) (tested : SharingTested corners i c b) where
+    pub skipped-counts : b ≡ false → Counts (ofElements (windowBetween corners)) slots (n, m, x) (block i c (unlabelled fs) empty) (n, m, y)
+    skipped-counts apart =
+        let none = skipped view tested ordered apart in
+        record {
+          says = λ room.
+              record { found-is = omega (arith, ap length (none .none-found)); opened-is = omega (arith, none .none-opened); tested-is = omega (arith, one, none .none-tested, room .few-tested) };
+        }
+
+  -- what is counted of an opened block is counted of it as an element, with its own test
+  pub room-tested : {i c : ℕ} {f : Forest} → Room (ofElements (windowBetween corners)) slots (n, m, x) (block i c f empty) → Room (ofBlocks (windowBetween corners)) slots (n, m, y) (block i c f empty)
+  room-tested room = record { few-found = room .few-found; few-opened = room .few-opened; few-tested = omega (arith, one, room .few-tested) }
+
+  pub opened-counts : {i c : ℕ} {f : Forest} {t : ℕ × ℕ × ℕ} → Counts (ofBlocks (windowBetween corners)) slots (n, m, y) (block i c f empty) t
+      → Counts (ofElements (windowBetween corners)) slots (n, m, x) (block i c f empty) t
+  opened-counts in-it =
       record {
-        says = λ ordered few room.
-            let none = child-skipped (windowBetween (range .corners)) child ordered (sym (tested .says (omega (arith, child .below)) (child .view .aligned) ordered) ∙ apart) in
-            omega (arith, ap length (none .none-found), none .none-opened);
+        says = λ room. let a = in-it .says (room-tested room) in
+            record { found-is = a .found-is; opened-is = a .opened-is; tested-is = omega (arith, one, a .tested-is, room .few-tested) };
       }
 
-  pub opened-counts : {t : ℕ × ℕ} → b ≡ true → level ≤ 16 → ChildView k (range .layout .width) (range .layout .slots) words level at s i c fs
-      → Counts range (n, m + 1) (unlabelled fs) t → Counts range (n, m) (block i c (unlabelled fs) empty) t
-  opened-counts shares low child inside =
+module _ (range : RangeQuery) {words : List ℕ} {element : Element} {level n m x y s i c : ℕ} {b : Bool} (ordered : Ordered (windowBetween (range .corners))) (one : y ≡ (x + 1) % 2 ^ 32)
+    (e : element ≡ Block s i c) (tested : SharingTested (range .corners) i c b) where
+  pub block-skipped : b ≡ false → ElementWalked (Counts (ofElements (windowBetween (range .corners))) (range .layout .slots)) (range .layout) words level element (n, m, x) (n, m, y)
+  block-skipped apart = walked-child e (λ k at fs low child. skipped-counts (range .corners) ordered one (child .view) tested apart)
+
+  pub block-counted : {t : ℕ × ℕ × ℕ} → b ≡ true → BlockCounted range words level s i c (n, m, y) t
+      → ElementWalked (Counts (ofElements (windowBetween (range .corners))) (range .layout .slots)) (range .layout) words level element (n, m, x) t
+  block-counted shares counted =
+      walked-child e (λ k at fs low child.
+      opened-counts (range .corners) ordered one (counted .walked .right k fs (child .below) (child .view) (shares-as-tested (child .view) tested ordered ∙ shares)))
+
+-- elements that all lie in the window
+module _ {window : Window} {slots n m x : ℕ} {f : Forest} (all : AllSeen window f) where
+  pub room-all : Room (ofBlocks window) slots (n, m, x) f → Room ofAll slots (n, m, 0) f
+  room-all room = record { few-found = omega (arith, ap length (all .all-found), room .few-found); few-opened = omega (arith, all .all-opened, room .few-opened); few-tested = omega arith }
+
+  pub inside-counts : {after r : ℕ} → Counts ofAll slots (n, m, 0) f (after, r, 0) → Counts (ofBlocks window) slots (n, m, x) f (after, r, x)
+  inside-counts counted =
       record {
-        says = λ ordered few room.
-            let one = child-opened (windowBetween (range .corners)) child ordered (sym (tested .says (omega (arith, child .below)) (child .view .aligned) ordered) ∙ shares) in
-            let l = ap length (one .same-found) in
-            let a = inside .says ordered (omega (arith, l)) (omega (arith, one .one-opened)) in
-            omega (arith, a .0, a .1, l, one .one-opened);
+        says = λ room. let a = counted .says (room-all room) in
+            record { found-is = omega (arith, ap length (all .all-found), a .found-is); opened-is = omega (arith, all .all-opened, a .opened-is); tested-is = omega (arith, all .none-tested) };
       }
 
-module _ {range : RangeQuery} {words : List ℕ} {element : Element} {level n m s i c : ℕ} {b : Bool} (e : element ≡ Block s i c) (tested : BlockTested (range .corners) i c b) where
-  pub block-skipped : b ≡ false → ElementWalked (Counts range) (range .layout) words level element (n, m) (n, m)
-  block-skipped apart = walked-child e (λ k at fs low child. skipped-counts tested apart low child)
+-- a block over the window's edge, from what was found of its elements
+module _ {window : Window} {slots n m x : ℕ} {f es : Forest} (edge : OverEdge window f es) where
+  pub room-edge : Room (ofBlocks window) slots (n, m, x) f → Room (ofElements window) slots (n, m + 1, x) es
+  room-edge room =
+      record {
+        few-found = omega (arith, ap length (edge .opened .same-found), room .few-found);
+        few-opened = omega (arith, edge .opened .one-opened, room .few-opened);
+        few-tested = omega (arith, edge .singly, room .few-tested);
+      }
 
-  pub block-counted : {r : Sum} → b ≡ true → BlockCounted range words level s i c n m r → ElementWalked (Counts range) (range .layout) words level element (n, m) (r .found, r .opened)
-  block-counted shares meets =
-      walked-child e (λ k at fs low child. opened-counts tested shares low child (meets .inside .right k fs (child .below) (child .view)))
+  pub edge-counts : {t : ℕ × ℕ × ℕ} → Counts (ofElements window) slots (n, m + 1, x) es t → Counts (ofBlocks window) slots (n, m, x) f t
+  edge-counts counted =
+      record {
+        says = λ room. let a = counted .says (room-edge room) in
+            record {
+              found-is = omega (arith, ap length (edge .opened .same-found), a .found-is);
+              opened-is = omega (arith, edge .opened .one-opened, a .opened-is);
+              tested-is = omega (arith, edge .singly, a .tested-is);
+            };
+      }
 
-module _ {range : RangeQuery} {words : List ℕ} {above slot level code found opened : ℕ} where
-  -- as many blocks were opened as there are slots
-  pub count-full : {n : ℕ} {r : Sum} → n ≡ opened → range .layout .slots ≤ n → r ≡ tooMany → LayoutFits (range .layout) words
-      → BlockCounted range words above slot level code found opened r
-  count-full same full is fits =
-      rw is (record {
-        inside = record { right = λ k es low view. record { says = λ ordered few room. absurd (omega arith) } };
-        closed = λ shut. omega (arith, fits .within .slots-to);
-      })
+pub count-barred : {range : RangeQuery} {words : List ℕ} {above slot level code found opened tests : ℕ} {o : Opening}
+    → OpenedNext (range .layout) words above slot level code opened o → o ≡ Damaged → LayoutFits (range .layout) words
+    → BlockCounted range words above slot level code (found, opened, tests) (found, moreThanSlots, tests)
+count-barred {range} {level = level} {code = code} next e fits =
+    record {
+      walked = record {
+        right = λ k es low view shares. record {
+          says = λ room. absurd (never-barred next e fits low view (omega (arith, block-opened (windowBetween (range .corners)) level code (unlabelled es) shares .one-opened, room .few-opened)));
+        };
+      };
+      closed = λ shut. omega (arith, fits .within .slots-to);
+    }
 
-  pub count-barred : {o : Opening} {r : Sum} → o ≡ Damaged → r ≡ tooMany → Entered (range .layout) words above slot level code o → LayoutFits (range .layout) words
-      → BlockCounted range words above slot level code found opened r
-  count-barred e is entered fits =
-      rw is (record {
-        inside = record { right = λ k es low view. absurd (never-barred e entered fits low view) };
-        closed = λ shut. omega (arith, fits .within .slots-to);
-      })
+module _ {range : RangeQuery} {words : List ℕ} {above slot level code found opened tests : ℕ} {b : Bool} (tested : InsideTested (range .corners) level code b) where
+  pub count-inside : {after r : ℕ} → b ≡ true → InsideCounted (range .layout) words above slot level code found opened after r
+      → BlockCounted range words above slot level code (found, opened, tests) (after, r, tests)
+  count-inside inside counted =
+      record { walked = record { right = λ k es low view shares. inside-counts (all-seen view tested inside) (counted .walked .right k es low view) }; closed = counted .closed }
 
-  pub count-whole : {count i n m : ℕ} {part : List ℕ} → InLoop (Counts range) (range .layout) words above slot level code count part i (found, opened + 1) (n, m) → count ≤ i
-      → BlockCounted range words above slot level code found opened (record { found = n; opened = m })
-  count-whole to end = record { inside = loop-inside to end; closed = λ shut. absurd (loop-open to shut) }
+  pub count-whole : {count i : ℕ} {part : List ℕ} {t : ℕ × ℕ × ℕ} → b ≡ false
+      → InLoop (Counts (ofElements (windowBetween (range .corners))) (range .layout .slots)) (range .layout) words above slot level code count part i (found, opened + 1, tests) t → count ≤ i
+      → BlockCounted range words above slot level code (found, opened, tests) t
+  count-whole over to end =
+      record {
+        walked = record { right = λ k es low view shares. edge-counts (over-edge view tested over shares) (loop-inside to end .right k es low view) };
+        closed = λ shut. absurd (loop-open to shut);
+      }

@@ -1,6 +1,8 @@
 pub mod WindowTests
-pub mod WindowParts
 pub mod SeenParts
+pub mod Openings
+pub mod Findings
+pub mod InsideCounts
 pub mod Counts
 pub mod PartCorners
 pub mod WholeTree

@@ -1,24 +1,26 @@
 -- What the walk from the root answers is count's answer.
-use Prim.Native.Nat.{ℕ, _≤_}
+use Prim.Native.Nat.{ℕ, _-_, _^_, _≤_, min}
 use native.Mathlib.Omega.{arith}
-use mathlib.Core.Path.{_≡_, refl, ap, ap₂, subst, subst₂, _∙_}
+use mathlib.Core.Path.{_≡_, refl, ap, ap₂, sym, subst, subst₂, _∙_}
 use mathlib.Core.Logic.{inl, inr}
 use mathlib.Core.List.{List}
 use lib.ListN.{length}
+use Rattle.pktree.specs.Panel.{Panel}
 use Rattle.pktree.specs.PixelSet.{member}
+use Rattle.pktree.specs.Elements.{Forest}
 use Rattle.pktree.specs.Tree.{tree as setTree}
 use Rattle.pktree.specs.Window as tree
 use Rattle.pktree.specs.Window.{found, Ordered, partOn, openedByWindow}
 use Rattle.measures.specs.Sizes.{UsableStore, panelOf, slotCount, sizesOf}
-use Rattle.measures.specs.Layout.{LaidOut, layoutOf, levelAboveRoot}
+use Rattle.measures.specs.Layout.{LaidOut, LayoutWithin, layoutOf}
 use Rattle.store.specs.Sound.{Holds}
 use Rattle.measures.specs.declared.sizes.Sizes.{Sizes}
 use Rattle.measures.specs.declared.sizes.Layout.{Layout}
 use Rattle.measures.proofs.Usable.{layout-said}
-use Rattle.query.specs.declared.count.RangeQuery.{RangeQuery}
-use Rattle.query.specs.declared.count.Sum.{Sum}
+use Rattle.query.specs.declared.walk.RangeQuery.{RangeQuery}
+use Rattle.query.specs.declared.walk.Sum.{Sum}
 use Rattle.answers.specs.declared.Refusal.{Refusal}
-use Rattle.promises.specs.Answer.{accepted, refused}
+use Rattle.promises.specs.Answer.{Answer, accepted, refused}
 use Rattle.promises.specs.Effect.{effect, passed, stopped, partIn}
 use Rattle.promises.specs.Calls as calls
 use Rattle.promises.proofs.SpoiledRoot.{spoiled-shut}
@@ -28,8 +30,8 @@ use Rattle.answers.specs.Answer.{numberOf, countAnswer}
 use Rattle.query.specs.declared.window.Corners.{Corners}
 use Rattle.query.specs.declared.window.Part.{Part}
 use Rattle.query.specs.declared.window.Part.the-variants.{Between, Empty}
-use Rattle.query.specs.Corners.{windowBetween, PartBetween, PartOf}
-use Rattle.query.specs.Counting.{BlockCounted, SumCase, SumWithin}
+use Rattle.query.specs.Corners.{windowBetween, PartBetween, PartCorners, PartOf}
+use Rattle.query.specs.Counting.{ofBlocks, Added, Counts, numbersOf, RootCounted, SumCase, SumWithin}
 use Rattle.query.proofs.WholeTree.{whole-tree}
 
 -- as the code makes it
@@ -41,31 +43,51 @@ pub of-root : {sizes : Sizes} {layout : Layout} (words : List ℕ) (P : Layout �
     → P (layoutOf (sizesOf words)) (sizesOf words)
 of-root words P said laid = subst₂ P (layout-said words said laid) said
 
-module _ {words : List ℕ} {window : tree.Window} {corners : Corners} {sum : Sum} (usable : UsableStore words) (between : PartBetween (panelOf (sizesOf words)) window corners)
-    (meets : BlockCounted (rangeOf (layoutOf (sizesOf words)) corners) words levelAboveRoot 0 (sizesOf words .order) 0 0 0 sum) where
+module _ {words : List ℕ} {window : tree.Window} {corners : Corners} {sum : Sum} (between : PartBetween (panelOf (sizesOf words)) window corners)
+    (within : LayoutWithin (layoutOf (sizesOf words))) (root : RootCounted (rangeOf (layoutOf (sizesOf words)) corners) words (sizesOf words .order) sum) where
+  -- on a sound store a walk comes to 01's numbers, and tests singly the elements of the opened blocks that are not wholly inside
+  pub root-added : {set : List ℕ} → Holds words set → Added (ofBlocks (windowBetween corners)) (0, 0, 0) (setTree (panelOf (sizesOf words)) (member set)) (numbersOf sum)
+  root-added {set} holds =
+      let (es, t) = whole-tree words set holds between in
+      let walked = root .counted .walked .right (sizesOf words .k) es (omega (arith, t .view .level-to)) (t .view) (t .shares) in
+      subst (λ (f : Forest). Counts (ofBlocks (windowBetween corners)) (layoutOf (sizesOf words) .slots) (0, 0, 0) f (numbersOf sum)) (sym (t .is-tree)) walked .says (t .room within)
+
   sum-is : {set : List ℕ} → Holds words set
       → (sum .found ≡ length (found (windowBetween corners) set)) × (sum .opened ≡ openedByWindow (windowBetween corners) (setTree (panelOf (sizesOf words)) (member set)))
       × (sum .found ≤ sizesOf words .most) × (sum .opened ≤ slotCount (sizesOf words .k) (sizesOf words .most))
   sum-is {set} holds =
       let (es, t) = whole-tree words set holds between in
+      let a = root-added holds in
       let n = ap length (t .all-found) in
-      let a = meets .inside .right (sizesOf words .k) es (omega (arith, t .view .level-to)) (t .view) .says (t .ordered) (omega (arith, t .few-found, usable .valid .most-to)) (omega (arith, t .few-opened)) in
-      (omega (arith, a .0, n), omega (arith, a .1, t .all-opened), omega (arith, a .0, t .few-found), omega (arith, a .1, t .few-opened))
+      (omega (arith, a .found-is, n), omega (arith, a .opened-is), omega (arith, a .found-is, n, t .few), omega (arith, a .opened-is, t .room within .few-opened))
 
-  root-counted : (r : Counting) → SumCase (sizesOf words .most) (layoutOf (sizesOf words)) sum r → calls.CountsIn words (windowBetween corners) (effect (countAnswer r) words words)
-  root-counted (Found f o) h =
+  root-counted : (usable : UsableStore words) (r : Counting) → SumCase (sizesOf words .most) (layoutOf (sizesOf words)) sum r
+      → calls.CountsIn words (windowBetween corners) (effect (countAnswer r) words words)
+  root-counted usable (Found f o) h =
       record {
         ends = inl (record { accepted = refl; first-to = h .2; second-to = h .3 });
-        spoiled = λ s. absurd (omega (arith, h .1, h .3, meets .closed (spoiled-shut words usable s)));
+        spoiled = λ s. absurd (omega (arith, h .1, h .3, root .counted .closed (spoiled-shut words usable s)));
         sound = λ set holds. let s = sum-is holds in record { is = ap₂ accepted (h .0 ∙ s .0) (h .1 ∙ s .1); same = refl };
       }
-  root-counted (Refused refusal) h =
+  root-counted usable (Refused refusal) h =
       let is = ap (λ (x : Refusal). refused (numberOf x)) (h .0) in
       record {
         ends = inr (is, refl);
         spoiled = λ s. is;
         sound = λ set holds. let s = sum-is holds in absurd (omega (arith, h .1 (s .2), s .3));
       }
+
+-- the part of a part is itself
+part-again : (panel : Panel) (window : tree.Window) → partOn panel window ≡ partOn panel (partOn panel window)
+part-again panel window =
+    let x : min (window .x1) (2 ^ panel .order - 1) ≡ min (min (window .x1) (2 ^ panel .order - 1)) (2 ^ panel .order - 1) = omega arith in
+    let y : min (window .y1) (2 ^ panel .order - 1) ≡ min (min (window .y1) (2 ^ panel .order - 1)) (2 ^ panel .order - 1) = omega arith in
+    rw (← x, ← y)
+
+pub given-part : {panel : Panel} (window : tree.Window) {part : Part} {corners : Corners} → PartOf panel window part → part ≡ Between corners → PartCorners panel corners
+given-part {panel} window {corners = corners} judged e =
+    let between : PartBetween panel window corners = rw e at judged in
+    record { is = between .is ∙ part-again panel window ∙ ap (partOn panel) (sym (between .is)); ordered = subst Ordered (part-again panel window ∙ ap (partOn panel) (sym (between .is))) (between .ordered) }
 
 -- the part that the code's sizes give is that of the words' own
 module _ (words : List ℕ) {sizes : Sizes} (said : sizes ≡ sizesOf words) (window : tree.Window) {part : Part} (judged : PartOf (panelOf sizes) window part) where
@@ -75,23 +97,22 @@ module _ (words : List ℕ) {sizes : Sizes} (said : sizes ≡ sizesOf words) (wi
   pub part-empty : part ≡ Empty → Ordered (partIn words window) → ⊥
   part-empty e = subst (λ (s : Sizes). Ordered (partOn (panelOf s) window) → ⊥) said (rw e at judged)
 
--- of the call's sizes and window
-pub count-answered : {words : List ℕ} {sizes : Sizes} {layout : Layout} {window : tree.Window} {corners : Corners} {sum : Sum} {r : Counting} → UsableStore words → sizes ≡ sizesOf words
-    → PartBetween (panelOf (sizesOf words)) window corners → LaidOut sizes layout → BlockCounted (rangeOf layout corners) words levelAboveRoot 0 (sizes .order) 0 0 0 sum
-    → SumWithin (sizes .most) layout sum r → calls.CountsIn words (partIn words window) (effect (countAnswer r) words words)
-count-answered {words} {corners = corners} {sum = sum} {r = r} usable said between laid meets within =
-    subst (λ (w : tree.Window). calls.CountsIn words w (effect (countAnswer r) words words)) (between .is)
-    (root-counted usable between (of-root words (λ l z. BlockCounted (rangeOf l corners) words levelAboveRoot 0 (z .order) 0 0 0 sum) said laid meets) r
-    (of-root words (λ l z. SumWithin (z .most) l sum r) said laid within .case))
+-- by the call's sizes
+pub part-counted : {words : List ℕ} {sizes : Sizes} {layout : Layout} {corners : Corners} {sum : Sum} {r : Counting}
+    → (UsableStore words × (sizes ≡ sizesOf words)) × PartCorners (panelOf sizes) corners → LaidOut sizes layout
+    → RootCounted (rangeOf layout corners) words (sizes .order) sum → SumWithin (sizes .most) layout sum r → calls.CountsIn words (windowBetween corners) (effect (countAnswer r) words words)
+part-counted {words} {corners = corners} {sum = sum} {r = r} given laid root within =
+    let said = given .0 .1 in
+    root-counted (subst (λ (s : Sizes). PartCorners (panelOf s) corners) said (given .1)) (of-root words (λ l z. LayoutWithin l) said laid (laid .within))
+    (of-root words (λ l z. RootCounted (rangeOf l corners) words (z .order) sum) said laid root) (given .0 .0) r
+    (of-root words (λ l z. SumWithin (z .most) l sum r) said laid within .case)
 
 -- the walk of a part, and the answer where there is none
 module _ (words : List ℕ) {sizes : Sizes} (usable : UsableStore words × (sizes ≡ sizesOf words)) (window : tree.Window) {part : Part} (judged : PartOf (panelOf sizes) window part) where
-  pub counted-part : {layout : Layout} {corners : Corners} {sum : Sum} {r : Counting} → part ≡ Between corners → LaidOut sizes layout
-      → BlockCounted (rangeOf layout corners) words levelAboveRoot 0 (sizes .order) 0 0 0 sum → SumWithin (sizes .most) layout sum r
-      → calls.Counts words window (effect (countAnswer r) words words)
-  counted-part e laid meets within =
+  pub counted-part : {corners : Corners} {a : Answer} → part ≡ Between corners → calls.CountsIn words (windowBetween corners) (effect a words words) → calls.Counts words window (effect a words words)
+  counted-part {a = a} e counted =
       let between = part-between words (usable .1) window judged e in
-      passed (between .ordered) (count-answered (usable .0) (usable .1) between laid meets within)
+      passed (between .ordered) (subst (λ (w : tree.Window). calls.CountsIn words w (effect a words words)) (between .is) counted)
 
   pub none-counted : part ≡ Empty → calls.Counts words window (effect (accepted 0 0) words words)
   none-counted e = stopped (part-empty words (usable .1) window judged e) (record { is = refl; same = refl })

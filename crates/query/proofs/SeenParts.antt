@@ -1,33 +1,52 @@
--- What a window sees of one element: a pixel outside it or inside, a block that is skipped or opened.
-use Prim.Native.Nat.{ℕ}
+-- What a window sees of one element, and of the block around its elements, by the tests that the code makes.
+use Prim.Native.Nat.{ℕ, _+_}
 use mathlib.Core.Path.{_≡_, refl, sym, _∙_}
 use mathlib.Core.Bool.{Bool, true, false}
 use mathlib.Core.List.{List, [], _∷_}
-use Rattle.pktree.specs.Elements.{empty, pixel, block, unlabelled}
+use Rattle.pktree.specs.Elements.{Forest, empty, pixel, block, unlabelled, size}
 use Rattle.pktree.specs.Tree.{blockOf, pixels}
-use Rattle.pktree.specs.Window.{Window, inWindow, Ordered, found, sharesPixel}
+use Rattle.pktree.specs.Window.{Window, inWindow, Ordered, found, sharesPixel, whollyInside, testedByWindow}
 use Rattle.pktree.proofs.Unlabelled.{local-unlabelled}
+use Rattle.pktree.proofs.WindowParts.{NothingSeen, OneOpened, block-apart, block-opened, edge-tested}
+use Rattle.pktree.proofs.Insides.{AllSeen, block-inside}
 use Rattle.store.specs.Placed.{Placed}
-use Rattle.store.proofs.BlockView.{ChildView}
-use Rattle.query.specs.Corners.{cornersMeet}
-use Rattle.query.proofs.WindowTests.{corners-decide}
-use Rattle.query.proofs.WindowParts.{NothingSeen, OneOpened, block-apart, block-opened}
+use Rattle.store.proofs.BlockView.{BlockView}
+use Rattle.query.specs.declared.window.Corners.{Corners}
+use Rattle.query.specs.Corners.{windowBetween, OnGrid, SharingTested, InsideTested}
 
 -- a pixel
 pub pixel-outside : (window : Window) (c : ℕ) → inWindow window c ≡ false → NothingSeen window (pixel c empty)
-pixel-outside window c e = record { none-found = rw e; none-opened = refl }
+pixel-outside window c e = record { none-found = rw e; none-opened = refl; none-tested = refl }
 
 pub pixel-inside : (window : Window) (c : ℕ) → inWindow window c ≡ true → found window (pixels {A = Unit {0}} (pixel c empty)) ≡ c ∷ []
 pixel-inside window c e = rw e
 
--- the block that an element names
-module _ {k width slots : ℕ} {words : List ℕ} {level code s i c : ℕ} {fs : Placed} (window : Window)
-    (child : ChildView k width slots words level code s i c fs) (ordered : Ordered window) where
-  decided : {b : Bool} → cornersMeet window i c ≡ b → sharesPixel window (blockOf i c (unlabelled fs)) ≡ b
-  decided e = sym (corners-decide window i c (unlabelled fs) (child .view .level-to) (child .view .aligned) (child .view .ends) ordered) ∙ e
+-- a block over the window's edge is opened, and its elements are tested
+pub record OverEdge (window : Window) (f es : Forest) : Type 0 where
+  pub opened : OneOpened window f es
+  pub singly : testedByWindow window f ≡ size es + testedByWindow window es
 
-  pub child-skipped : cornersMeet window i c ≡ false → NothingSeen window (block i c (unlabelled fs) empty)
-  child-skipped e = block-apart window k i c (unlabelled fs) (local-unlabelled (child .view .right)) (decided e)
+-- a block as the walks see it
+on-grid : {k width slots : ℕ} {words : List ℕ} {slot level code : ℕ} {es : Placed} → BlockView k width slots words slot level code es → OnGrid level code
+on-grid view = record { level-from = view .level-from; level-to = view .level-to; aligned = view .aligned; ends = view .ends }
 
-  pub child-opened : cornersMeet window i c ≡ true → OneOpened window (block i c (unlabelled fs) empty) (unlabelled fs)
-  child-opened e = block-opened window i c (unlabelled fs) (decided e)
+module _ {k width slots : ℕ} {words : List ℕ} {slot level code : ℕ} {es : Placed} (view : BlockView k width slots words slot level code es) {corners : Corners} {b : Bool} where
+  pub shares-as-tested : SharingTested corners level code b → Ordered (windowBetween corners) → sharesPixel (windowBetween corners) (blockOf level code (unlabelled es)) ≡ b
+  shares-as-tested tested ordered = sym (tested .says (on-grid view) ordered (unlabelled es))
+
+  inside-as-tested : InsideTested corners level code b → whollyInside (windowBetween corners) (blockOf level code (unlabelled es)) ≡ b
+  inside-as-tested tested = sym (tested .says (on-grid view) (unlabelled es))
+
+  pub skipped : SharingTested corners level code b → Ordered (windowBetween corners) → b ≡ false → NothingSeen (windowBetween corners) (block level code (unlabelled es) empty)
+  skipped tested ordered e = block-apart (windowBetween corners) k level code (unlabelled es) (local-unlabelled (view .right)) (shares-as-tested tested ordered ∙ e)
+
+  pub all-seen : InsideTested corners level code b → b ≡ true → AllSeen (windowBetween corners) (block level code (unlabelled es) empty)
+  all-seen tested e = block-inside (windowBetween corners) k level code (unlabelled es) (local-unlabelled (view .right)) (inside-as-tested tested ∙ e)
+
+  pub over-edge : InsideTested corners level code b → b ≡ false → sharesPixel (windowBetween corners) (blockOf level code (unlabelled es)) ≡ true
+      → OverEdge (windowBetween corners) (block level code (unlabelled es) empty) (unlabelled es)
+  over-edge tested e shares =
+      record {
+        opened = block-opened (windowBetween corners) level code (unlabelled es) shares;
+        singly = edge-tested (windowBetween corners) level code (unlabelled es) shares (inside-as-tested tested ∙ e);
+      }

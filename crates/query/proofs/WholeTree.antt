@@ -1,36 +1,39 @@
 -- The root of a sound store as a window walk sees it: all that 01 counts of the set is seen below it, and there is room for that.
-use Prim.Native.Nat.{ℕ, suc, _≤_}
+use Prim.Native.Nat.{ℕ, _≤_}
 use native.Mathlib.Omega.{arith}
 use mathlib.Core.Path.{_≡_, refl, ap, sym, subst, _∙_}
 use mathlib.Core.Bool.{true}
-use mathlib.Core.List.{List}
+use mathlib.Core.List.{List, append-nil}
 use lib.ListN.{length}
 use Rattle.morton.specs.Code.{gatherBits, xOf, yOf}
-use Rattle.pktree.specs.Panel.{Panel, HasPixel}
+use Rattle.pktree.specs.Panel.{Panel, HasPixel, Block}
 use Rattle.pktree.specs.PixelSet.{member}
 use Rattle.pktree.specs.Elements.{empty, block, unlabelled}
 use Rattle.pktree.specs.Tree.{tree, pixels, blockOf}
-use Rattle.pktree.specs.Window.{Window, Ordered, found, sharesPixel, openedByWindow}
+use Rattle.pktree.specs.Window.{Window, Ordered, found, sharesPixel}
+use Rattle.pktree.proofs.Forests.{blockCount}
+use Rattle.pktree.proofs.Windows.{corners-meet-exactly}
+use Rattle.pktree.proofs.WindowParts.{found-few, opened-few, tested-few}
+use Rattle.pktree.proofs.Insides.{largest, largest-valid}
 use Rattle.pktree.proofs.Parts.{part-begins}
 use Rattle.pktree.proofs.Unlabelled.{pixels-unlabelled, blockCount-unlabelled}
 use Rattle.measures.specs.Sizes.{panelOf, slotCount, slotWidth, sizesOf}
+use Rattle.measures.specs.Layout.{LayoutWithin, layoutOf}
 use Rattle.store.specs.Placed.{Placed}
 use Rattle.store.specs.Sound.{Holds}
 use Rattle.store.proofs.SoundView.{sound-view}
 use Rattle.store.proofs.BlockView.{BlockView, root-view}
 use Rattle.query.specs.declared.window.Corners.{Corners}
 use Rattle.query.specs.Corners.{windowBetween, PartBetween}
-use Rattle.query.specs.Counting.{foundIn}
-use Rattle.query.proofs.WindowTests.{corners-exactly, corners-decide}
-use Rattle.query.proofs.WindowParts.{found-few, opened-few, block-opened}
+use Rattle.query.specs.Counting.{ofBlocks, Room}
 
 pub record WholeTree (words : List ℕ) (window : Window) (set : List ℕ) (es : Placed) : Type 0 where
-  pub ordered : Ordered window
   pub view : BlockView (sizesOf words .k) (slotWidth (sizesOf words .k)) (slotCount (sizesOf words .k) (sizesOf words .most)) words 0 (sizesOf words .order) 0 es
-  pub all-found : found window (pixels (unlabelled es)) ≡ found window set
-  pub all-opened : openedByWindow window (tree (panelOf (sizesOf words)) (member set)) ≡ suc (openedByWindow window (unlabelled es))
-  pub few-found : foundIn window (unlabelled es) ≤ sizesOf words .most
-  pub few-opened : suc (openedByWindow window (unlabelled es)) ≤ slotCount (sizesOf words .k) (sizesOf words .most)
+  pub is-tree : tree (panelOf (sizesOf words)) (member set) ≡ block (sizesOf words .order) 0 (unlabelled es) empty
+  pub shares : sharesPixel window (blockOf (sizesOf words .order) 0 (unlabelled es)) ≡ true
+  pub all-found : found window (pixels (tree (panelOf (sizesOf words)) (member set))) ≡ found window set
+  pub few : length (found window set) ≤ sizesOf words .most
+  pub room : LayoutWithin (layoutOf (sizesOf words)) → Room (ofBlocks window) (slotCount (sizesOf words .k) (sizesOf words .most)) (0, 0, 0) (tree (panelOf (sizesOf words)) (member set))
 
 -- the root's lowest corner is the panel's
 first-corner : (xOf 0 ≡ 0) × (yOf 0 ≡ 0)
@@ -38,7 +41,7 @@ unfolding gatherBits
 first-corner = (refl, refl)
 
 -- the corners of a part are in order, and the first is on the panel
-between-ordered : {panel : Panel} {window : Window} {corners : Corners} → PartBetween panel window corners → Ordered (windowBetween corners)
+pub between-ordered : {panel : Panel} {window : Window} {corners : Corners} → PartBetween panel window corners → Ordered (windowBetween corners)
 between-ordered b = subst Ordered (sym (b .is)) (b .ordered)
 
 between-begins : (panel : Panel) {window : Window} {corners : Corners} → PartBetween panel window corners → HasPixel panel (xOf (corners .first)) (yOf (corners .first))
@@ -57,16 +60,22 @@ whole-tree words {corners = corners} set holds between =
     let root = root-view words placed es (holds .sound) v in
     let is : tree panel (member set) ≡ block (sizesOf words .order) 0 (unlabelled es) empty =
     ap (λ (l : List ℕ). tree panel (member l)) (sym (holds .set-is)) ∙ sym (holds .sound .is-tree) ∙ ap unlabelled (v .is) in
-    let shares : sharesPixel part (blockOf (sizesOf words .order) 0 (unlabelled es)) ≡ true =
-    sym (corners-decide part (sizesOf words .order) 0 (unlabelled es) (root .level-to) (root .aligned) (root .ends) ordered)
-    ∙ corners-exactly part (sizesOf words .order) 0 .1 (omega (arith, first-corner, on .0, on .1)) in (
+    let same : pixels (tree panel (member set)) ≡ set = ap pixels is ∙ rw (append-nil (pixels (unlabelled es))) (pixels-unlabelled es ∙ sym (v .same-pixels) ∙ holds .set-is) in
+    let block : Block largest (sizesOf words .order) 0 = record { low = root .level-to; aligned = root .aligned; corner = omega arith } in
+    let few : blockCount (tree panel (member set)) ≤ slotCount (sizesOf words .k) (sizesOf words .most) = omega (arith, ap blockCount is, blockCount-unlabelled es, v .few) in
+    let many : length (pixels (tree panel (member set))) ≤ sizesOf words .most = omega (arith, ap length same, ap length (holds .set-is), holds .sound .fits) in (
       es,
       record {
         view = root;
-        ordered = ordered;
-        all-found = ap (found part) (pixels-unlabelled es ∙ sym (v .same-pixels) ∙ holds .set-is);
-        all-opened = ap (openedByWindow part) is ∙ block-opened part (sizesOf words .order) 0 (unlabelled es) shares .one-opened;
-        few-found = omega (arith, found-few part (pixels (unlabelled es)), ap length (pixels-unlabelled es), ap length (v .same-pixels), holds .sound .fits);
-        few-opened = omega (arith, opened-few part (unlabelled es), blockCount-unlabelled es, v .few);
+        is-tree = is;
+        shares = corners-meet-exactly largest part (sizesOf words .order) 0 (unlabelled es) largest-valid block (ordered .x-ordered) (ordered .y-ordered) .1
+            (omega (arith, first-corner, on .0, on .1));
+        all-found = ap (found part) same;
+        few = omega (arith, found-few part set, ap length same, many);
+        room = λ within. record {
+          few-found = omega (arith, found-few part (pixels (tree panel (member set))), many, holds .sound .usable .valid .most-to);
+          few-opened = omega (arith, opened-few part (tree panel (member set)), few);
+          few-tested = omega (arith, tested-few part (tree panel (member set)), few, many, holds .sound .usable .valid .most-to, within .slots-to);
+        };
       },
     )

@@ -1,12 +1,13 @@
 -- The window of a call as 01's, its part on the panel between two corners given by their codes, and the tests that a walk makes of it.
 use Prim.Native.Nat.{ℕ, _+_, _^_, _≤_}
 use mathlib.Core.Path.{_≡_}
-use mathlib.Core.Bool.{Bool, _&&_}
-use lib.Dec.{ltb, leb}
+use mathlib.Core.Bool.{Bool}
 use Rattle.morton.specs.Code.{xOf, yOf}
 use Rattle.pktree.specs.Panel.{Panel, Aligned}
+use Rattle.pktree.specs.Elements.{Forest}
+use Rattle.pktree.specs.Tree.{blockOf}
 use Rattle.pktree.specs.Window as tree
-use Rattle.pktree.specs.Window.{inWindow, Ordered, partOn}
+use Rattle.pktree.specs.Window.{inWindow, Ordered, partOn, sharesPixel, whollyInside}
 use Rattle.query.specs.declared.window.Window.{Window}
 use Rattle.query.specs.declared.window.Corners.{Corners}
 use Rattle.query.specs.declared.window.Part.{Part}
@@ -29,14 +30,22 @@ abbrev pub PartOf : Panel → tree.Window → Part → Type 0
 PartOf panel window (Between corners) = PartBetween panel window corners
 PartOf panel window Empty = Ordered (partOn panel window) → ⊥
 
--- the corners of a block against those of a window
-abbrev pub cornersMeet : tree.Window → ℕ → ℕ → Bool
-cornersMeet window level code =
-    (ltb (window .x0) (xOf code + 2 ^ level) && leb (xOf code) (window .x1))
-    && (ltb (window .y0) (yOf code + 2 ^ level) && leb (yOf code) (window .y1))
+-- the corners of some part of the panel
+abbrev pub PartCorners : Panel → Corners → Type 0
+PartCorners panel corners = PartBetween panel (windowBetween corners) corners
+
+-- a block that a panel can have: its level, its code and its end
+pub record OnGrid (level code : ℕ) : Type 0 where
+  pub level-from : 1 ≤ level
+  pub level-to : level ≤ 16
+  pub aligned : Aligned level code
+  pub ends : code + 4 ^ level ≤ 4 ^ 16
 
 pub record PixelTested (corners : Corners) (code : ℕ) (r : Bool) : Type 0 where
   pub says : Ordered (windowBetween corners) → r ≡ inWindow (windowBetween corners) code
 
-pub record BlockTested (corners : Corners) (level code : ℕ) (r : Bool) : Type 0 where
-  pub says : level ≤ 15 → Aligned level code → Ordered (windowBetween corners) → r ≡ cornersMeet (windowBetween corners) level code
+pub record SharingTested (corners : Corners) (level code : ℕ) (r : Bool) : Type 0 where
+  pub says : OnGrid level code → Ordered (windowBetween corners) → (es : Forest) → r ≡ sharesPixel (windowBetween corners) (blockOf level code es)
+
+pub record InsideTested (corners : Corners) (level code : ℕ) (r : Bool) : Type 0 where
+  pub says : OnGrid level code → (es : Forest) → r ≡ whollyInside (windowBetween corners) (blockOf level code es)

@@ -2,4 +2,5 @@
 // and stops as soon as the words cannot be those of a sound store.
 pub mod ask;
 pub mod count;
+pub mod walk;
 pub mod window;

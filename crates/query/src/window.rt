@@ -1,8 +1,11 @@
 ghost use Prim.Native.Nat.{min};
 ghost use mathlib.Core.Path.{_≡_};
 ghost use Rattle.measures.specs.Sizes.{ValidSizes, panelOf};
-ghost use Rattle.query.specs.Corners.{windowOf, PartOf, PixelTested, BlockTested};
+ghost use Rattle.query.specs.Corners.{windowOf, PartOf, PixelTested, SharingTested, InsideTested};
 use measures::sizes::Sizes;
+use morton::last_code;
+use morton::x_at_most;
+use morton::y_at_most;
 
 // 01: both corners included.
 pub struct Window {
@@ -62,13 +65,36 @@ pub fn has_pixel(corners: Corners, code: u32) -> bool
     morton::y_between(corners.first, corners.last, code)
 }
 
-// A block meets the window where its lowest corner is in the window that begins with the whole block around the first pixel.
+// A block shares a pixel with the window where each begins before the other ends, on both axes.
 pub fn meets(corners: Corners, level: u32, code: u32) -> bool
-    ensures { λ r. ⌜ BlockTested corners level code r ⌝ }
+    ensures { λ r. ⌜ SharingTested corners level code r ⌝ }
 {
-    let from_block = Corners {
-        first: morton::block_around(corners.first, level % 16),
-        last: corners.last,
-    };
-    has_pixel(from_block, code)
+    if !x_at_most(code, corners.last) {
+        return false;
+    }
+    if !y_at_most(code, corners.last) {
+        return false;
+    }
+    let last = last_code(code, level);
+    if !x_at_most(corners.first, last) {
+        return false;
+    }
+    y_at_most(corners.first, last)
+}
+
+// 02, P4: a block lies wholly inside the window where its lowest and its highest pixel do.
+pub fn lies_inside(corners: Corners, level: u32, code: u32) -> bool
+    ensures { λ r. ⌜ InsideTested corners level code r ⌝ }
+{
+    if !x_at_most(corners.first, code) {
+        return false;
+    }
+    if !y_at_most(corners.first, code) {
+        return false;
+    }
+    let last = last_code(code, level);
+    if !x_at_most(last, corners.last) {
+        return false;
+    }
+    y_at_most(last, corners.last)
 }

@@ -1,7 +1,7 @@
 -- `listing::list_pixel` meets its contract.
 use borrow.Author.Needs.{needs}
 use borrow.Author.Tests.{not-true, not-false}
-use Rattle.listing.proofs.Lists.{outside-not-listed, inside-no-room, inside-listed}
+use Rattle.listing.proofs.Lists.{outside-not-listed, inside-listed}
 use Rattle.listing.proofs.list_pixel.Statement.{statement}
 use Rattle.listing.proofs.list_pixel.Tie as tie
 
@@ -11,11 +11,6 @@ list-pixel-spec =
     (tie.spec
     (λ c κs. search needs)
     (λ c. search (needs, outside-not-listed, not-true))
-    (λ c κs. search needs)
-    (λ c κs. search needs)
-    (λ c. search (needs, inside-no-room, not-false))
-    (λ c. search needs)
-    (λ c. search needs)
     (λ c κs. search needs)
     (λ c. search needs)
     (λ c. search (needs, inside-listed, not-false)))

@@ -1,7 +1,7 @@
--- `query::count::count` meets its contract: the walk starts at the root, below which all that 01 counts of the part is seen; an empty part is not walked.
+-- `query::count::count` meets its contract: an empty part is not walked.
 use borrow.Author.Needs.{needs}
-use Rattle.measures.proofs.Usable.{sizes-valid, layout-fits}
-use Rattle.query.proofs.RootCount.{counted-part, none-counted}
+use Rattle.measures.proofs.Usable.{sizes-valid}
+use Rattle.query.proofs.RootCount.{given-part, counted-part, none-counted}
 use Rattle.query.proofs.count.count.Statement.{statement}
 use Rattle.query.proofs.count.count.Tie as tie
 
@@ -13,7 +13,5 @@ count-spec =
     (λ c. search needs)
     (λ c. search needs)
     (λ c. search (needs, none-counted))
-    (λ c κs. search (needs, sizes-valid))
-    (λ c κs. search (needs, layout-fits))
-    (λ c κs. search needs)
+    (λ c κs. search (needs, given-part))
     (λ c. search (needs, counted-part)))

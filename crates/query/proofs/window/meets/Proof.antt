@@ -1,13 +1,63 @@
--- `query::window::meets` meets its contract: the window that begins with the whole block around its first pixel is tested.
+-- `query::window::meets` meets its contract: each begins before the other ends.
+use Prim.Native.Nat.{ℕ}
+use mathlib.Core.Path.{ap, sym, _∙_}
 use borrow.Author.Needs.{needs}
-use Rattle.query.proofs.WindowTests.{block-tested}
+use borrow.Author.Tests.{not-true, not-false}
+use lib.Dec.{leb}
+use Rattle.morton.specs.Code.{xOf, yOf}
+use Rattle.query.proofs.WindowTests.{first-decides, second-decides, third-decides, fourth-decides, shares-by-corners}
 use Rattle.query.proofs.window.meets.Statement.{statement}
 use Rattle.query.proofs.window.meets.Tie as tie
 
 returns : tie.Need-returns
-returns c =
-    let a = c .before .before in
-    block-tested (a .args .corners) (a .args .level) (a .args .code) (search needs) (c .before .block-around .ensures) (c .has-pixel .ensures)
+returns c = record { says = λ on o es. first-decides (shares-by-corners _ on es o) (sym (c .before .x-at-most .ensures) ∙ not-true _ (c .if1 .taken)) }
+
+returns-2 : tie.Need-returns-2
+returns-2 c =
+    let x = c .before .before in
+    record {
+      says = λ on o es.
+          second-decides (shares-by-corners _ on es o) (sym (x .before .x-at-most .ensures) ∙ not-false _ (x .if1 .left))
+          (sym (c .before .y-at-most .ensures) ∙ not-true _ (c .if2 .taken));
+    }
+
+returns-3 : tie.Need-returns-3
+returns-3 c =
+    let l = c .before .before in
+    let y = l .before in
+    let x = y .before .before in
+    let a = x .before .before .args in
+    record {
+      says = λ on o es.
+          let far = l .last-code .ensures .is (on .level-from) (on .level-to) (on .ends) in
+          third-decides (shares-by-corners _ on es o) (sym (x .before .x-at-most .ensures) ∙ not-false _ (x .if1 .left)) (sym (y .before .y-at-most .ensures) ∙ not-false _ (y .if2 .left))
+          (sym (c .before .x-at-most2 .ensures ∙ ap (λ (n : ℕ). leb (xOf (a .corners .first)) (xOf n)) far) ∙ not-true _ (c .if3 .taken));
+    }
+
+returns-4 : tie.Need-returns-4
+returns-4 c =
+    let z = c .before in
+    let l = z .before .before in
+    let y = l .before in
+    let x = y .before .before in
+    let a = x .before .before .args in
+    record {
+      says = λ on o es.
+          let far = l .last-code .ensures .is (on .level-from) (on .level-to) (on .ends) in
+          fourth-decides (shares-by-corners _ on es o) (sym (x .before .x-at-most .ensures) ∙ not-false _ (x .if1 .left)) (sym (y .before .y-at-most .ensures) ∙ not-false _ (y .if2 .left))
+          (sym (z .before .x-at-most2 .ensures ∙ ap (λ (n : ℕ). leb (xOf (a .corners .first)) (xOf n)) far) ∙ not-false _ (z .if3 .left)) (c .y-at-most2 .ensures ∙ ap (λ (n : ℕ). leb (yOf (a .corners .first)) (yOf n)) far);
+    }
 
 pub meets-spec : {M : Type 1} → statement M
-meets-spec = tie.close (tie.spec (λ c κs. search needs) (λ c κs. search needs) returns)
+meets-spec =
+    tie.close
+    (tie.spec
+    (λ c κs. search needs)
+    returns
+    (λ c κs. search needs)
+    returns-2
+    (λ c κs. search needs)
+    (λ c κs. search needs)
+    returns-3
+    (λ c κs. search needs)
+    returns-4)

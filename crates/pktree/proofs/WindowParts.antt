@@ -1,19 +1,19 @@
--- What a window finds and opens among elements, from what it finds and opens in their parts.
+-- What a window finds, opens and tests singly among elements, from what it finds, opens and tests in their parts.
 use Prim.Native.Nat.{ℕ, suc, _+_, _^_, _≤_, _<_}
 use native.Mathlib.Omega.{arith}
+use native.Mathlib.Nat.{zero-add}
 use mathlib.Core.Path.{_≡_, refl, ap, ap₂, sym, _∙_}
-use mathlib.Core.Bool.{Bool, true, false, cond, false≢true}
+use mathlib.Core.Bool.{Bool, true, false, not, _&&_, cond, false≢true}
 use mathlib.Core.List.{List, [], _∷_, _++_, append-nil}
 use lib.ListN.{length, length-append}
-use Rattle.pktree.specs.Lists.{select}
-use Rattle.pktree.specs.Elements.{Forest, empty, pixel, block, _⧺_, blockAt}
+use Rattle.pktree.specs.Lists.{select, total}
+use Rattle.pktree.specs.Elements.{Forest, empty, pixel, block, _⧺_, blockAt, size}
 use Rattle.pktree.specs.Tree.{blockOf, blocks, pixels}
-use Rattle.pktree.specs.Window.{Window, inWindow, found, sharesPixel, openedByWindow}
+use Rattle.pktree.specs.Window.{Window, inWindow, found, sharesPixel, whollyInside, overEdge, openedByWindow, testedByWindow}
 use Rattle.pktree.proofs.Absurd.{false-unless}
 use Rattle.pktree.proofs.Arranged.{Arranged, LocallyRight, arranged-le}
 use Rattle.pktree.proofs.Forests.{blockCount, length-blocks, pixels-join, blocks-join}
 use Rattle.pktree.proofs.Windows.{shares-pixel-exactly}
-use Rattle.query.specs.Counting.{foundIn}
 
 -- a list and what passes a test of it
 cond-append : {A : Type 0} (b : Bool) (a : A) (l r : List A) → cond b (a ∷ (l ++ r)) (l ++ r) ≡ cond b (a ∷ l) l ++ r
@@ -32,6 +32,21 @@ select-short : {A : Type 0} (test : A → Bool) (l : List A) → length (select 
 select-short test [] = omega arith
 select-short test (a ∷ l) = cond-short (test a) a (select test l) (length l) (select-short test l)
 
+total-join : {A : Type 0} (number : A → ℕ) (l r : List A) → total number (l ++ r) ≡ total number l + total number r
+total-join number [] r = omega arith
+total-join number (a ∷ l) r = omega (arith, total-join number l r)
+
+-- what passes one test and another is none where nothing passes the one
+none-of-both : {A : Type 0} (one other : A → Bool) (l : List A) → length (select one l) ≡ 0 → select (λ a. one a && other a) l ≡ []
+none-of-both one other [] none = refl
+none-of-both one other (a ∷ l) none = go (one a) none (none-of-both one other l)
+  where
+    go : (t : Bool) → length (cond t (a ∷ select one l) (select one l)) ≡ 0 → (length (select one l) ≡ 0 → select (λ x. one x && other x) l ≡ [])
+        → cond (t && other a) (a ∷ select (λ x. one x && other x) l) (select (λ x. one x && other x) l) ≡ []
+    go true e rest = absurd (omega arith)
+    go false e rest = rest e
+
+-- no more is found and opened than there is
 pub found-few : (window : Window) (set : List ℕ) → length (found window set) ≤ length set
 found-few window set = select-short (inWindow window) set
 
@@ -42,13 +57,51 @@ opened-few window f = omega (arith, select-short (sharesPixel window) (blocks f)
 pub found-join : (window : Window) (f g : Forest) → found window (pixels (f ⧺ g)) ≡ found window (pixels f) ++ found window (pixels g)
 found-join window f g = rw (pixels-join f g) (select-join (inWindow window) (pixels f) (pixels g))
 
-pub found-in-join : (window : Window) (f g : Forest) → foundIn window (f ⧺ g) ≡ foundIn window f + foundIn window g
-found-in-join window f g = rw (found-join window f g) (length-append (found window (pixels f)) (found window (pixels g)))
-
 pub opened-join : (window : Window) (f g : Forest) → openedByWindow window (f ⧺ g) ≡ openedByWindow window f + openedByWindow window g
 opened-join window f g =
     rw (blocks-join f g, select-join (sharesPixel window) (blocks f) (blocks g))
     (length-append (select (sharesPixel window) (blocks f)) (select (sharesPixel window) (blocks g)))
+
+pub tested-join : (window : Window) (f g : Forest) → testedByWindow window (f ⧺ g) ≡ testedByWindow window f + testedByWindow window g
+tested-join window f g =
+    rw (blocks-join f g, select-join (overEdge window) (blocks f) (blocks g))
+    (total-join _ (select (overEdge window) (blocks f)) (select (overEdge window) (blocks g)))
+
+-- what is tested in a block: its elements if it lies over the window's edge, and what is tested in these
+pub tested-block
+    : (window : Window) (i c : ℕ) (es : Forest)
+    → testedByWindow window (block i c es empty) ≡ cond (overEdge window (blockOf i c es)) (size es) 0 + testedByWindow window es
+tested-block window i c es = rw (append-nil (blocks es)) (go (overEdge window (blockOf i c es)))
+  where
+    go : (t : Bool) → total (λ b. size (b .elements)) (cond t (blockOf i c es ∷ select (overEdge window) (blocks es)) (select (overEdge window) (blocks es))) ≡ cond t (size es) 0 + testedByWindow window es
+    go true = refl
+    go false = rw zero-add
+
+-- so a block that has pixels in the window and others outside it has all its elements tested
+pub edge-tested
+    : (window : Window) (i c : ℕ) (es : Forest)
+    → sharesPixel window (blockOf i c es) ≡ true → whollyInside window (blockOf i c es) ≡ false
+    → testedByWindow window (block i c es empty) ≡ size es + testedByWindow window es
+edge-tested window i c es shares out = rw (tested-block window i c es, shares, out)
+
+at-most : (t : Bool) (n : ℕ) → cond t n 0 ≤ n
+at-most true n = omega arith
+at-most false n = omega arith
+
+-- an element is tested once at most, and the outermost are not tested: with them it is at most all pixels and blocks
+pub tested-few : (window : Window) (f : Forest) → size f + testedByWindow window f ≤ length (pixels f) + blockCount f
+tested-few window empty = omega arith
+tested-few window (pixel c f) = omega (arith, tested-few window f)
+tested-few window (blockAt u i c es f) =
+    omega (
+      arith,
+      tested-join window (block i c es empty) f,
+      tested-block window i c es,
+      at-most (overEdge window (blockOf i c es)) (size es),
+      length-append (pixels es) (pixels f),
+      tested-few window es,
+      tested-few window f,
+    )
 
 -- no code of this run is in the window
 abbrev Outside : Window → ℕ → ℕ → Type 0
@@ -72,17 +125,23 @@ nothing-outside window k n from to (blockAt v i c es f) h out =
       rw no (select-join (sharesPixel window) (blocks es) (blocks f) ∙ ap₂ _++_ (inside .1) (rest .1)),
     )
 
+-- what is not opened is not tested
+pub tested-unopened : (window : Window) (f : Forest) → openedByWindow window f ≡ 0 → testedByWindow window f ≡ 0
+tested-unopened window f none = rw (none-of-both (sharesPixel window) (λ b. not (whollyInside window b)) (blocks f) none)
+
 -- a block that has no pixel in common with the window
 pub record NothingSeen (window : Window) (f : Forest) : Type 0 where
   pub none-found : found window (pixels f) ≡ []
   pub none-opened : openedByWindow window f ≡ 0
+  pub none-tested : testedByWindow window f ≡ 0
 
 pub block-apart
     : (window : Window) (k i c : ℕ) (es : Forest) → LocallyRight k i c es → sharesPixel window (blockOf i c es) ≡ false → NothingSeen window (block i c es empty)
 block-apart window k i c es right e =
     let shares = shares-pixel-exactly window (blockOf i c es) in
     let inside = nothing-outside window k i c (c + 4 ^ i) es (right .arranged) (λ code p q t. false≢true (sym e ∙ shares .1 (code, p, q, t))) in
-    record { none-found = rw (append-nil (pixels es)) (inside .0); none-opened = rw (e, append-nil (blocks es)) (ap length (inside .1)) }
+    let opened : openedByWindow window (block i c es empty) ≡ 0 = rw (e, append-nil (blocks es)) (ap length (inside .1)) in
+    record { none-found = rw (append-nil (pixels es)) (inside .0); none-opened = opened; none-tested = tested-unopened window (block i c es empty) opened }
 
 -- a block that has one is opened, and its elements are looked at
 pub record OneOpened (window : Window) (f es : Forest) : Type 0 where
