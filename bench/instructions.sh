@@ -22,7 +22,8 @@ row() {
         echo "$counted" | awk -v name="$1" -v panel="$3" -v unit="$4" -v k="$k" -v target="$target" -v pixels="$PIXELS" '
             { each = $5 / $1; if (unit == "pixel") each /= pixels
               beside = target ? sprintf("%8d %6.2f", target, each / target) : sprintf("%8s %6s", "", "")
-              printf "%-11s %-8s %2d %10.1f per %-6s %s %9.1f\n", name, panel, k, each, unit, beside, $3 / $1 }'
+              found = name ~ /^list/ ? "" : sprintf("%9.1f", $3 / $1)  # of a list, bench sums codes too
+              printf "%-11s %-8s %2d %10.1f per %-6s %s %9s\n", name, panel, k, each, unit, beside, found }'
     done
 }
 

@@ -28,7 +28,7 @@
 #define PK_VERSION "1.3.1"
 #define PK_VERSION_MAJOR 1
 #define PK_VERSION_MINOR 3
-#define PK_VERSION_PATCH 0
+#define PK_VERSION_PATCH 1
 
 #include <stddef.h>
 #include <stdint.h>
