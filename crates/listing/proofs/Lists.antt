@@ -12,8 +12,7 @@ use Rattle.query.specs.Corners.{windowBetween, PixelTested}
 use Rattle.query.specs.Counting.{Findings, ofElements, ofAll}
 use Rattle.query.proofs.Findings.{Additive, room-first, room-second, count-walk}
 use Rattle.query.proofs.SeenParts.{pixel-outside, pixel-inside}
-use Rattle.query.proofs.InsideCounts.{pixel-added}
-use Rattle.query.proofs.Counts.{outside-not-counted, inside-counted, pixel-counted}
+use Rattle.query.proofs.Counts.{outside-not-counted, pixel-counted}
 use Rattle.walks.proofs.Walks.{Walk}
 use Rattle.listing.specs.Listing.{Lists, CodeWritten, PixelListed}
 use Rattle.listing.proofs.WrittenAt.{written-none, written-one, written-join, length-written}

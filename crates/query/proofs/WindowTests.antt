@@ -59,6 +59,7 @@ module _ {a b c d t : Bool} (four : Decide a b c d t) where
 abbrev pub farCode : ℕ → ℕ → ℕ
 farCode level code = code + (4 ^ level - 1)
 
+-- the four comparisons of a block with a window
 module _ (window : Window) {level code : ℕ} (on : OnGrid level code) (es : Forest) where
   -- each begins before the other ends
   pub shares-by-corners : Ordered window
