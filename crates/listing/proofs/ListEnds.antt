@@ -10,7 +10,7 @@ use lib.Seq.{length-take-le, drop-at}
 use Rattle.pktree.specs.Elements.{Forest}
 use Rattle.pktree.specs.PixelSet.{member}
 use Rattle.pktree.specs.Tree.{tree}
-use Rattle.pktree.specs.Window.{Window, found}
+use Rattle.pktree.specs.Window.{Window, found, testedByWindow}
 use Rattle.measures.specs.Layout.{LaidOut, LayoutWithin, layoutOf, levelAboveRoot}
 use Rattle.measures.specs.Sizes.{UsableStore, panelOf, sizesOf}
 use Rattle.measures.specs.declared.sizes.Sizes.{Sizes}
@@ -32,9 +32,9 @@ use Rattle.query.specs.declared.window.Corners.{Corners}
 use Rattle.query.specs.declared.window.Part.{Part}
 use Rattle.query.specs.declared.window.Part.the-variants.{Between, Empty}
 use Rattle.query.specs.Corners.{windowBetween, PartBetween, PartCorners, PartOf}
-use Rattle.query.specs.Counting.{ofBlocks, Added, numbersOf, RootCounted, SumWithin}
+use Rattle.query.specs.Counting.{ofBlocks, numbersOf, RootCounted, SumWithin}
 use Rattle.query.proofs.WholeTree.{whole-tree}
-use Rattle.query.proofs.RootCount.{rangeOf, of-root, root-added, part-between, part-empty, part-counted}
+use Rattle.query.proofs.RootCount.{rangeOf, of-root, root-tested, part-between, part-empty, part-counted}
 use Rattle.listing.specs.Listing.{writtenAt, Lists, BlockListed, RootListed, CountedBefore}
 use Rattle.listing.proofs.WrittenAt.{written-front}
 
@@ -103,9 +103,9 @@ module _ (words : List ℕ) {sizes : Sizes} (corners : Corners) (given : (Usable
   low : LayoutWithin (layoutOf (sizesOf words))
   low = of-root words (λ l z. LayoutWithin l) (given .0 .1) laid (laid .within)
 
-  -- on a sound store it comes to what count comes to, and tests singly the elements of the same blocks
-  pub list-added : {set : List ℕ} → Holds words set → Added (ofBlocks (windowBetween corners)) (0, 0, 0) (tree (panelOf (sizesOf words)) (member set)) (numbersOf sum)
-  list-added = root-added between low (of-root words (λ l z. RootCounted (rangeOf l corners) words (z .order) sum) (given .0 .1) laid (root-counts root))
+  -- 02, P4: on a sound store it tests singly the elements of the opened blocks that are not wholly inside
+  pub list-tested : {set : List ℕ} → Holds words set → sum .tested ≡ testedByWindow (windowBetween corners) (tree (panelOf (sizesOf words)) (member set))
+  list-tested = root-tested between low (of-root words (λ l z. RootCounted (rangeOf l corners) words (z .order) sum) (given .0 .1) laid (root-counts root))
 
   -- it answers as count does
   again : calls.CountsIn words (windowBetween corners) (effect (countAnswer r) words words)

@@ -18,7 +18,7 @@ use Rattle.query.specs.declared.walk.RangeQuery.{RangeQuery}
 use Rattle.query.specs.declared.walk.Sum.{Sum}
 use Rattle.query.specs.declared.window.Corners.{Corners}
 use Rattle.query.specs.Corners.{windowBetween}
-use Rattle.query.specs.Counting.{Findings, ofBlocks, ofAll, Room, Counts, SharerWalked, numbersOf, PixelCounted}
+use Rattle.query.specs.Counting.{Findings, ofBlocks, ofAll, Room, Counts, SharingWalked, numbersOf, PixelCounted}
 
 -- these codes written from index `at` on, the rest unchanged
 abbrev pub writtenAt : List ℕ → ℕ → List ℕ → List ℕ
@@ -34,7 +34,7 @@ pub record Lists (findings : Findings) (slots : ℕ) (s : List ℕ × ℕ × ℕ
   pub wrote : Room findings slots (s .1, s .2, s .3) f → Wrote (findings .codes f) (s .1) (s .0) (t .0)
 
 pub record BlockListed (range : RangeQuery) (words : List ℕ) (above slot level code : ℕ) (before after : List ℕ) (s t : ℕ × ℕ × ℕ) : Type 0 where
-  pub walked : SharerWalked (Lists (ofBlocks (windowBetween (range .corners))) (range .layout .slots)) range words above slot level code (before, s .0, s .1, s .2) (after, t .0, t .1, t .2)
+  pub walked : SharingWalked (Lists (ofBlocks (windowBetween (range .corners))) (range .layout .slots)) range words above slot level code (before, s .0, s .1, s .2) (after, t .0, t .1, t .2)
   pub long : length after ≡ length before
   pub closed : CannotOpen (range .layout .width) words slot level code → range .layout .slots < t .1
 

@@ -57,7 +57,7 @@ fn list_pixel(corners: Corners, code: u32, output: &mut [u32], found: u32) -> u3
     write_code(code, output, found)
 }
 
-// As count_inside, and the code of each pixel is written.
+// As count_inside, and each code is written to `out`, the part of the output that is lent.
 fn list_inside(
     store: &[u32],
     layout: Layout,

@@ -69,7 +69,7 @@ pub fn y_between(first: u32, last: u32, code: u32) -> bool
     is_between(first & 0xaaaa_aaaa, last & 0xaaaa_aaaa, code & 0xaaaa_aaaa)
 }
 
-// Two tests that need no order of what they compare.
+// Where a block may lie on either side of a window no bounds are in order, which the tests above ask for.
 pub fn x_at_most(a: u32, b: u32) -> bool
     ensures { λ r. ⌜ r ≡ leb (xOf a) (xOf b) ⌝ }
 {

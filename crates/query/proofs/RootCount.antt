@@ -10,7 +10,7 @@ use Rattle.pktree.specs.PixelSet.{member}
 use Rattle.pktree.specs.Elements.{Forest}
 use Rattle.pktree.specs.Tree.{tree as setTree}
 use Rattle.pktree.specs.Window as tree
-use Rattle.pktree.specs.Window.{found, Ordered, partOn, openedByWindow}
+use Rattle.pktree.specs.Window.{found, Ordered, partOn, openedByWindow, testedByWindow}
 use Rattle.measures.specs.Sizes.{UsableStore, panelOf, slotCount, sizesOf}
 use Rattle.measures.specs.Layout.{LaidOut, LayoutWithin, layoutOf}
 use Rattle.store.specs.Sound.{Holds}
@@ -45,12 +45,16 @@ of-root words P said laid = subst₂ P (layout-said words said laid) said
 
 module _ {words : List ℕ} {window : tree.Window} {corners : Corners} {sum : Sum} (between : PartBetween (panelOf (sizesOf words)) window corners)
     (within : LayoutWithin (layoutOf (sizesOf words))) (root : RootCounted (rangeOf (layoutOf (sizesOf words)) corners) words (sizesOf words .order) sum) where
-  -- on a sound store a walk comes to 01's numbers, and tests singly the elements of the opened blocks that are not wholly inside
-  pub root-added : {set : List ℕ} → Holds words set → Added (ofBlocks (windowBetween corners)) (0, 0, 0) (setTree (panelOf (sizesOf words)) (member set)) (numbersOf sum)
+  -- on a sound store a walk adds what the definitions say of the tree of the set
+  root-added : {set : List ℕ} → Holds words set → Added (ofBlocks (windowBetween corners)) (0, 0, 0) (setTree (panelOf (sizesOf words)) (member set)) (numbersOf sum)
   root-added {set} holds =
       let (es, t) = whole-tree words set holds between in
       let walked = root .counted .walked .right (sizesOf words .k) es (omega (arith, t .view .level-to)) (t .view) (t .shares) in
       subst (λ (f : Forest). Counts (ofBlocks (windowBetween corners)) (layoutOf (sizesOf words) .slots) (0, 0, 0) f (numbersOf sum)) (sym (t .is-tree)) walked .says (t .room within)
+
+  -- 02, P4: it tests singly the elements of the opened blocks that are not wholly inside
+  pub root-tested : {set : List ℕ} → Holds words set → sum .tested ≡ testedByWindow (windowBetween corners) (setTree (panelOf (sizesOf words)) (member set))
+  root-tested holds = omega (arith, root-added holds .tested-is)
 
   sum-is : {set : List ℕ} → Holds words set
       → (sum .found ≡ length (found (windowBetween corners) set)) × (sum .opened ≡ openedByWindow (windowBetween corners) (setTree (panelOf (sizesOf words)) (member set)))

@@ -58,12 +58,12 @@ pub record Counts (findings : Findings) (slots : ℕ) (s : ℕ × ℕ × ℕ) (f
   pub says : Room findings slots s f → Added findings s f t
 
 -- a block that shares a pixel with the window was walked, and all inside it
-pub record SharerWalked {S : Type 0} (W : S → Forest → S → Type 0) (range : RangeQuery) (words : List ℕ) (above slot level code : ℕ) (s t : S) : Type 0 where
+pub record SharingWalked {S : Type 0} (W : S → Forest → S → Type 0) (range : RangeQuery) (words : List ℕ) (above slot level code : ℕ) (s t : S) : Type 0 where
   pub right : (k : ℕ) (es : Placed) → level < above → BlockView k (range .layout .width) (range .layout .slots) words slot level code es
       → sharesPixel (windowBetween (range .corners)) (blockOf level code (unlabelled es)) ≡ true → W s (block level code (unlabelled es) empty) t
 
 pub record BlockCounted (range : RangeQuery) (words : List ℕ) (above slot level code : ℕ) (s t : ℕ × ℕ × ℕ) : Type 0 where
-  pub walked : SharerWalked (Counts (ofBlocks (windowBetween (range .corners))) (range .layout .slots)) range words above slot level code s t
+  pub walked : SharingWalked (Counts (ofBlocks (windowBetween (range .corners))) (range .layout .slots)) range words above slot level code s t
   pub closed : CannotOpen (range .layout .width) words slot level code → range .layout .slots < t .1
 
 -- from the root on

@@ -40,7 +40,7 @@ fn count_pixel(corners: Corners, code: u32, found: u32) -> u32
     found
 }
 
-// A block wholly inside the window, an element of a block of level `above`: all its pixels are found, all its blocks opened, and nothing is tested.
+// A block wholly inside the window, an element of a block of level `above`, before which `blocks` were opened: nothing in it is tested, since all of it is found.
 fn count_inside(
     store: &[u32],
     layout: Layout,
@@ -70,7 +70,7 @@ fn count_inside(
     opened
 }
 
-// A block that shares a pixel with the window: its corners are compared with the window's once, and if it reaches over the edge, each element is tested.
+// A block that shares a pixel with the window. Its corners are compared with the window's once, so that only in a block over the edge each element is tested.
 fn count_block(
     store: &[u32],
     range: RangeQuery,
