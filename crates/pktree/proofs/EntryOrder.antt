@@ -98,9 +98,9 @@ number-of-entries (blockAt u i c es f) =
 abbrev pub EntryWithin : ℕ → ℕ → Entry → Type 0
 EntryWithin to top e = (e .code < to) × (e .level ≤ top)
 
-pub every-join : (P : Entry → Type 0) (l r : List Entry) → Every P l → Every P r → Every P (l ++ r)
+pub every-join : {A : Type 0} (P : A → Type 0) (l r : List A) → Every P l → Every P r → Every P (l ++ r)
 every-join P [] r p q = q
-every-join P (e ∷ l) r p q = (p .0, every-join P l r (p .1) q)
+every-join P (a ∷ l) r p q = (p .0, every-join P l r (p .1) q)
 
 within-lift : (to to′ top top′ : ℕ) (l : List Entry) → to ≤ to′ → top ≤ top′ → Every (EntryWithin to top) l → Every (EntryWithin to′ top′) l
 within-lift to to′ top top′ [] h g p = tt

@@ -20,7 +20,7 @@ cond-append : {A : Type 0} (b : Bool) (a : A) (l r : List A) → cond b (a ∷ (
 cond-append true a l r = refl
 cond-append false a l r = refl
 
-select-join : {A : Type 0} (test : A → Bool) (l r : List A) → select test (l ++ r) ≡ select test l ++ select test r
+pub select-join : {A : Type 0} (test : A → Bool) (l r : List A) → select test (l ++ r) ≡ select test l ++ select test r
 select-join test [] r = refl
 select-join test (a ∷ l) r = rw (select-join test l r) (cond-append (test a) a (select test l) (select test r))
 
@@ -32,7 +32,7 @@ select-short : {A : Type 0} (test : A → Bool) (l : List A) → length (select 
 select-short test [] = omega arith
 select-short test (a ∷ l) = cond-short (test a) a (select test l) (length l) (select-short test l)
 
-total-join : {A : Type 0} (number : A → ℕ) (l r : List A) → total number (l ++ r) ≡ total number l + total number r
+pub total-join : {A : Type 0} (number : A → ℕ) (l r : List A) → total number (l ++ r) ≡ total number l + total number r
 total-join number [] r = omega arith
 total-join number (a ∷ l) r = omega (arith, total-join number l r)
 

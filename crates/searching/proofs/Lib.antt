@@ -1,0 +1,11 @@
+pub mod ListLaws
+pub mod Distances
+pub mod Precedence
+pub mod NearestPixel
+pub mod NextBlock
+pub mod TreeBlocks
+pub mod OpenedPixels
+pub mod Steps
+pub mod Limits
+pub mod Completion
+pub mod Budgets
