@@ -9,3 +9,4 @@ pub mod Steps
 pub mod Limits
 pub mod Completion
 pub mod Budgets
+pub mod Pruned

@@ -1,12 +1,14 @@
--- What holds of every element of a list.
-use Prim.Native.Nat.{ℕ}
-use mathlib.Core.Path.{_≡_, refl}
-use mathlib.Core.Bool.{Bool, true, false, _||_, false≢true}
+-- What holds of every element of a list, and of the elements that pass a test.
+use Prim.Native.Nat.{ℕ, _+_, _≤_}
+use native.Mathlib.Omega.{arith}
+use mathlib.Core.Path.{_≡_, refl, sym, _∙_}
+use mathlib.Core.Bool.{Bool, true, false, _||_, cond, false≢true}
 use mathlib.Core.List.{List, [], _∷_, _++_, List·Memᴰ, List·Memᴰ·head, List·Memᴰ·tail}
 use lib.Dec.{eqb}
 use borrow.Author.Tests.{eqb-true, eq-eqb}
-use Rattle.pktree.specs.Lists.{Every}
+use Rattle.pktree.specs.Lists.{Every, select, total}
 use Rattle.pktree.specs.PixelSet.{member}
+use Rattle.pktree.proofs.Absurd.{false-unless}
 
 pub every-map : {A : Type 0} (P Q : A → Type 0) (l : List A) → ((a : A) → P a → Q a) → Every P l → Every Q l
 every-map P Q [] f h = tt
@@ -27,6 +29,24 @@ every-right P (a ∷ l) r h = every-right P l r (h .1)
 pub every-of-all : {A : Type 0} (P : A → Type 0) (l : List A) → ((a : A) → List·Memᴰ a l → P a) → Every P l
 every-of-all P [] f = tt
 every-of-all P (a ∷ l) f = (f a (List·Memᴰ·head refl), every-of-all P l (λ x m. f x (List·Memᴰ·tail m)))
+
+-- of what passes one test, what passes a narrower one
+pub select-narrow : {A : Type 0} (wide narrow : A → Bool) → ((a : A) → narrow a ≡ true → wide a ≡ true) → (l : List A) → select narrow (select wide l) ≡ select narrow l
+select-narrow wide narrow h [] = refl
+select-narrow wide narrow h (a ∷ l) = go (wide a) refl (select-narrow wide narrow h l)
+  where
+    go : (t : Bool) → wide a ≡ t → select narrow (select wide l) ≡ select narrow l
+        → select narrow (cond t (a ∷ select wide l) (select wide l)) ≡ cond (narrow a) (a ∷ select narrow l) (select narrow l)
+    go true e ih = rw ih
+    go false e ih = rw (false-unless (narrow a) (λ n. false≢true (sym e ∙ h a n))) ih
+
+pub total-select : {A : Type 0} (number : A → ℕ) (test : A → Bool) (l : List A) → total number (select test l) ≤ total number l
+total-select number test [] = omega arith
+total-select number test (a ∷ l) = go (test a) (total-select number test l)
+  where
+    go : (t : Bool) → total number (select test l) ≤ total number l → total number (cond t (a ∷ select test l) (select test l)) ≤ number a + total number l
+    go true ih = omega arith
+    go false ih = omega arith
 
 -- the same of a set of pixels and its members
 pub of-member : (P : ℕ → Type 0) (l : List ℕ) (x : ℕ) → Every P l → member l x ≡ true → P x

@@ -2,7 +2,7 @@
 use Prim.Native.Nat.{ℕ, suc, _+_}
 use native.Mathlib.Omega.{arith}
 use mathlib.Core.Path.{_≡_, refl, sym}
-use mathlib.Core.List.{List, [], _∷_, _++_, append-assoc}
+use mathlib.Core.List.{List, [], _∷_, _++_, append-assoc, append-nil}
 use Rattle.pktree.specs.Lists.{Every, total}
 use Rattle.pktree.specs.Elements.{Forest, empty, pixel, blockAt}
 use Rattle.pktree.specs.Tree.{BlockOf, pixels}
@@ -30,6 +30,10 @@ pixels-joined P (blockAt u i c es f) h g = every-join P (pixels es) (pixels f) (
 pub among-append : (l r : List BlockOf) → pixelsAmong (l ++ r) ≡ pixelsAmong l ++ pixelsAmong r
 among-append [] r = refl
 among-append (b ∷ l) r = rw (among-append l r) (sym (append-assoc (pixelElements (b .elements)) (pixelsAmong l) (pixelsAmong r)))
+
+-- after one block more
+pub among-end : (l : List BlockOf) (b : BlockOf) → pixelsAmong (l ++ (b ∷ [])) ≡ pixelsAmong l ++ pixelElements (b .elements)
+among-end l b = rw (among-append l (b ∷ []), append-nil (pixelElements (b .elements)))
 
 -- a block and the blocks inside it
 abbrev pub heldBy : BlockOf → ℕ

@@ -16,7 +16,7 @@ use Rattle.searching.specs.Search.{pixelElements, blockElements, pixelsA
 use Rattle.searching.proofs.ListLaws.{every-map, every-left, every-right}
 use Rattle.searching.proofs.NearestPixel.{nearest-from, nearest-append}
 use Rattle.searching.proofs.NextBlock.{chosen-every, every-chosen, chosen-total}
-use Rattle.searching.proofs.OpenedPixels.{Inside, pixels-split, pixels-joined, among-append, heldBy, held-elements}
+use Rattle.searching.proofs.OpenedPixels.{Inside, pixels-split, pixels-joined, among-end, heldBy, held-elements}
 use Rattle.searching.proofs.TreeBlocks.{Gathered, Within, elements-within, pixels-no-nearer, inside-no-nearer}
 
 module _ (place : ℕ) where
@@ -38,16 +38,13 @@ module _ (place : ℕ) where
   among-opened : (P : ℕ → Type 0) (opened : List BlockOf) (b : BlockOf) → Every P (pixelsAmong opened) → Every P (pixelElements (b .elements))
       → Every P (pixelsAmong (opened ++ (b ∷ [])))
   among-opened P opened b h g =
-      rw (among-append opened (b ∷ []))
-      (every-join P (pixelsAmong opened) (pixelElements (b .elements) ++ []) h (every-join P (pixelElements (b .elements)) [] g tt))
+      rw (among-end opened b) (every-join P (pixelsAmong opened) (pixelElements (b .elements)) h g)
 
   opened-among : (P : ℕ → Type 0) (opened : List BlockOf) (b : BlockOf) → Every P (pixelsAmong (opened ++ (b ∷ [])))
       → Every P (pixelsAmong opened) × Every P (pixelElements (b .elements))
   opened-among P opened b h =
-      let e : Every P (pixelsAmong opened ++ (pixelElements (b .elements) ++ [])) = rw (among-append opened (b ∷ [])) at h in (
-        every-left P (pixelsAmong opened) (pixelElements (b .elements) ++ []) e,
-        every-left P (pixelElements (b .elements)) [] (every-right P (pixelsAmong opened) (pixelElements (b .elements) ++ []) e),
-      )
+      let e : Every P (pixelsAmong opened ++ pixelElements (b .elements)) = rw (among-end opened b) at h in
+      (every-left P (pixelsAmong opened) (pixelElements (b .elements)) e, every-right P (pixelsAmong opened) (pixelElements (b .elements)) e)
 
   -- an opened block hides no pixel and brings no new one
   everywhere-opened : (P : ℕ → Type 0) (met opened : List BlockOf) → Every P (pixelsAmong opened) → Every (Inside P) met → Everywhere P (openOf place met opened)
@@ -89,6 +86,11 @@ module _ (place : ℕ) where
       → length (openNext place s .opened) + total heldBy (openNext place s .met) ≡ number
   count-kept number s h = count-opened (s .met) (s .opened) ∙ h
 
+  -- the nearest pixel found, after one block more
+  pub found-end : (opened : List BlockOf) (b : BlockOf)
+      → nearestOf place none (pixelsAmong (opened ++ (b ∷ []))) ≡ nearestOf place (nearestOf place none (pixelsAmong opened)) (pixelElements (b .elements))
+  found-end opened b = rw (among-end opened b) (nearest-append place none (pixelsAmong opened) (pixelElements (b .elements)))
+
   -- a pixel found stays, or makes way for one that is no farther
   pub record FoundWithin (distance : ℕ) (o : Option ℕ) : Type 0 where
     pub pixel : ℕ
@@ -105,8 +107,7 @@ module _ (place : ℕ) where
   within-opened distance [] opened h = h
   within-opened distance (b ∷ l) opened h =
       let n : BlockOf = next place b l in
-      rw (among-append opened (n ∷ []), nearest-append place none (pixelsAmong opened) (pixelElements (n .elements) ++ []))
-      (within-more distance (nearestOf place none (pixelsAmong opened)) (pixelElements (n .elements) ++ []) h)
+      rw (found-end opened n) (within-more distance (nearestOf place none (pixelsAmong opened)) (pixelElements (n .elements)) h)
 
   pub within-kept : (distance : ℕ) (s : Search) → FoundWithin distance (found place s) → FoundWithin distance (found place (openNext place s))
   within-kept distance s h = within-opened distance (s .met) (s .opened) h
