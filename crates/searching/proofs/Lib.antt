@@ -10,3 +10,4 @@ pub mod Limits
 pub mod Completion
 pub mod Budgets
 pub mod Pruned
+pub mod Spread

@@ -8,7 +8,10 @@ use lib.Dec.{eqb}
 use borrow.Author.Tests.{eqb-true, eq-eqb}
 use Rattle.pktree.specs.Lists.{Every, select, total}
 use Rattle.pktree.specs.PixelSet.{member}
+use Rattle.pktree.specs.Tree.{BlockOf}
 use Rattle.pktree.proofs.Absurd.{false-unless}
+use Rattle.pktree.proofs.EntryOrder.{every-join}
+use Rattle.searching.specs.OpeningOrder.{InOrder}
 
 pub every-map : {A : Type 0} (P Q : A → Type 0) (l : List A) → ((a : A) → P a → Q a) → Every P l → Every Q l
 every-map P Q [] f h = tt
@@ -47,6 +50,28 @@ total-select number test (a ∷ l) = go (test a) (total-select number test l)
     go : (t : Bool) → total number (select test l) ≤ total number l → total number (cond t (a ∷ select test l) (select test l)) ≤ number a + total number l
     go true ih = omega arith
     go false ih = omega arith
+
+-- what holds of all holds where only those of the first list that pass a test are left
+pub every-select : {A : Type 0} (P : A → Type 0) (test : A → Bool) (l r : List A) → Every P (l ++ r) → Every P (select test l ++ r)
+every-select P test [] r h = h
+every-select P test (a ∷ l) r h = go (test a) (every-select P test l r (h .1))
+  where
+    go : (t : Bool) → Every P (select test l ++ r) → Every P (cond t (a ∷ select test l) (select test l) ++ r)
+    go true ih = (h .0, ih)
+    go false ih = ih
+
+-- pairs of blocks
+pub in-order-select : (R : BlockOf → BlockOf → Type 0) (test : BlockOf → Bool) (l r : List BlockOf) → InOrder R (l ++ r) → InOrder R (select test l ++ r)
+in-order-select R test [] r h = h
+in-order-select R test (a ∷ l) r h = go (test a) (in-order-select R test l r (h .1))
+  where
+    go : (t : Bool) → InOrder R (select test l ++ r) → InOrder R (cond t (a ∷ select test l) (select test l) ++ r)
+    go true ih = (every-select (R a) test l r (h .0), ih)
+    go false ih = ih
+
+pub in-order-join : (R : BlockOf → BlockOf → Type 0) (l r : List BlockOf) → InOrder R l → InOrder R r → Every (λ a. Every (R a) r) l → InOrder R (l ++ r)
+in-order-join R [] r h g u = g
+in-order-join R (a ∷ l) r h g u = (every-join (R a) l r (h .0) (u .0), in-order-join R l r (h .1) g (u .1))
 
 -- the same of a set of pixels and its members
 pub of-member : (P : ℕ → Type 0) (l : List ℕ) (x : ℕ) → Every P l → member l x ≡ true → P x

@@ -1,14 +1,14 @@
 -- The blocks of a set's tree: where they and their pixels lie, and so how far they are.
 use Prim.Native.Nat.{ℕ, zero, suc, _+_, _^_, _≤_, _<_}
 use native.Mathlib.Omega.{arith}
-use mathlib.Core.Path.{_≡_, sym, subst}
+use mathlib.Core.Path.{_≡_, refl, sym, subst}
 use mathlib.Core.Bool.{Bool, true, false}
 use mathlib.Core.List.{List, List·Memᴰ}
 use Rattle.pktree.specs.Lists.{Every}
 use Rattle.pktree.specs.Panel.{Panel, Valid, Block}
 use Rattle.pktree.specs.Elements.{Forest, empty, pixel, blockAt, gather}
-use Rattle.pktree.specs.Tree.{BlockOf, blocks, pixels}
-use Rattle.pktree.proofs.Alignment.{pow-pos, aligned-multiple, blocks-nest}
+use Rattle.pktree.specs.Tree.{BlockOf, tree, blocks, pixels}
+use Rattle.pktree.proofs.Alignment.{pow-pos, aligned-root, aligned-multiple, blocks-nest}
 use Rattle.pktree.proofs.Pixels.{keep, markedFrom, pixels-of-gather}
 use Rattle.pktree.proofs.InTree.{gather-has-many}
 use Rattle.searching.specs.Distance.{squaredDistance}
@@ -39,6 +39,9 @@ module _ (panel : Panel) (marked : ℕ → Bool) (valid : Valid panel) where
   pub record Gathered (b : BlockOf) : Type 0 where
     pub of-panel : Block panel (b .level) (b .code)
     pub gathered : b .elements ≡ gather marked (panel .k) (b .level) (b .code)
+
+  pub root-gathered : Every Gathered (blockElements (tree panel marked))
+  root-gathered = (record { of-panel = record { low = omega arith; aligned = aligned-root (panel .order); corner = pow-pos (panel .order) }; gathered = refl }, tt)
 
   -- a block that stands inside another
   pub record Within (b c : BlockOf) : Type 0 where
