@@ -11,3 +11,7 @@ pub mod Completion
 pub mod Budgets
 pub mod Pruned
 pub mod Spread
+pub mod OpeningOrders
+pub mod Returned
+pub mod SetSearches
+pub mod NearestPromises
