@@ -10,6 +10,7 @@ use lib.Dec.{ltb}
 use borrow.Author.Tests.{ltb-true, ltb-false, lt-ltb}
 use Rattle.pktree.specs.Lists.{Every}
 use Rattle.pktree.specs.Tree.{BlockOf}
+use Rattle.pktree.proofs.Absurd.{zero-is-not-one}
 use Rattle.searching.specs.Distance.{squaredDistance}
 use Rattle.searching.specs.Search.{distanceTo, isFarther, allFarther, next, others}
 use Rattle.searching.specs.Nearest.{limitOf}
@@ -61,10 +62,10 @@ module _ (place : ℕ) where
       let low = limit-of-found place (some p) l in
       let high = limit-greatest place (squaredDistance place p) (some p) l (omega arith)
       (every-map (Farther p) (λ b. squaredDistance place p ≤ distanceTo place b) l (λ b f. omega arith) (all-farther p l .0 h))
-      (λ g. let z : _≡_ {A = ℕ} 0 1 = cc (g .0) in omega arith) in
+      (λ g. zero-is-not-one (cc (g .0))) in
       omega (arith, low, high)
 
-  not-below : (o : Option ℕ) (b : BlockOf) → isFarther place o b ≡ false → Holds place (λ p. distanceTo place b ≤ squaredDistance place p) o
+  not-below : (o : Option ℕ) (b : BlockOf) → isFarther place o b ≡ false → Holds (λ p. distanceTo place b ≤ squaredDistance place p) o
   not-below none b h = tt
   not-below (some p) b h = ltb-false (squaredDistance place p) (distanceTo place b) h
 
@@ -74,5 +75,5 @@ module _ (place : ℕ) where
       let v : ℕ = distanceTo place (next place b l) in
       let low : limitOf place o (b ∷ l) ≤ v = to-next (λ c. limitOf place o (b ∷ l) ≤ distanceTo place c) b l (limit-of-met place o (b ∷ l)) in
       let high : v ≤ limitOf place o (b ∷ l) =
-      limit-greatest place v o (b ∷ l) (not-below o (next place b l) h) (from-next v b l (omega arith)) (λ g. let z : _≡_ {A = ℕ} 0 1 = cc (g .1) in omega arith) in
+      limit-greatest place v o (b ∷ l) (not-below o (next place b l) h) (from-next v b l (omega arith)) (λ g. zero-is-not-one (cc (g .1))) in
       omega (arith, low, high)

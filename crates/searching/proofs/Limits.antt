@@ -11,6 +11,10 @@ use Rattle.searching.specs.Search.{distanceTo}
 use Rattle.searching.specs.Nearest.{leastDistance, limitOf}
 use Rattle.searching.proofs.NearestPixel.{Holds}
 
+-- neither a pixel found nor a block left
+abbrev pub Neither : Option ℕ → List BlockOf → Type 0
+Neither o l = (o ≡ none) × (l ≡ [])
+
 module _ (place : ℕ) where
   least-first : (n : ℕ) (l : List BlockOf) → leastDistance place n l ≤ n
   least-first n [] = omega arith
@@ -26,7 +30,7 @@ module _ (place : ℕ) where
   least-greatest v n [] h g = h
   least-greatest v n (b ∷ l) h g = least-greatest v (min n (distanceTo place b)) l (omega (arith, g .0)) (g .1)
 
-  pub limit-of-found : (o : Option ℕ) (l : List BlockOf) → Holds place (λ p. limitOf place o l ≤ squaredDistance place p) o
+  pub limit-of-found : (o : Option ℕ) (l : List BlockOf) → Holds (λ p. limitOf place o l ≤ squaredDistance place p) o
   limit-of-found none l = tt
   limit-of-found (some p) l = least-first (squaredDistance place p) l
 
@@ -35,11 +39,7 @@ module _ (place : ℕ) where
   limit-of-met none (b ∷ l) = (least-first (distanceTo place b) l, least-others (distanceTo place b) l)
   limit-of-met (some p) l = least-others (squaredDistance place p) l
 
-  -- neither a pixel found nor a block left
-  abbrev pub Neither : Option ℕ → List BlockOf → Type 0
-  Neither o l = (o ≡ none) × (l ≡ [])
-
-  pub limit-greatest : (v : ℕ) (o : Option ℕ) (l : List BlockOf) → Holds place (λ p. v ≤ squaredDistance place p) o → Every (λ b. v ≤ distanceTo place b) l
+  pub limit-greatest : (v : ℕ) (o : Option ℕ) (l : List BlockOf) → Holds (λ p. v ≤ squaredDistance place p) o → Every (λ b. v ≤ distanceTo place b) l
       → (Neither o l → ⊥) → v ≤ limitOf place o l
   limit-greatest v none [] h g n = absurd (n (refl, refl))
   limit-greatest v none (b ∷ l) h g n = least-greatest v (distanceTo place b) l (g .0) (g .1)

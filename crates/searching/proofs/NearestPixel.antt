@@ -5,22 +5,33 @@ use mathlib.Core.Bool.{Bool, true, false, cond}
 use mathlib.Core.Option.{Option, none, some}
 use mathlib.Core.List.{List, [], _∷_, _++_}
 use Rattle.pktree.specs.Lists.{Every}
+use Rattle.pktree.proofs.Absurd.{zero-is-not-one}
 use Rattle.searching.specs.Distance.{squaredDistance}
 use Rattle.searching.specs.Search.{pixelPrecedes, nearestOf}
 use Rattle.searching.proofs.Precedence.{NotAfter, not-after-itself, not-after-trans, precedes-true, precedes-false}
+
+-- of a pixel found, if any
+abbrev pub Holds : (ℕ → Type 0) → Option ℕ → Type 0
+Holds P none = Unit {0}
+Holds P (some p) = P p
+
+-- what holds of two pixels holds of the one chosen
+holds-chosen : (P : ℕ → Type 0) (t : Bool) (c p : ℕ) → P c → P p → P (cond t c p)
+holds-chosen P true c p h g = h
+holds-chosen P false c p h g = g
 
 module _ (place : ℕ) where
   -- p is nearer than q, or as near and of no higher code
   abbrev pub First : ℕ → ℕ → Type 0
   First p q = NotAfter (squaredDistance place p) p (squaredDistance place q) q
 
-  pub first-itself : (p : ℕ) → First p p
+  first-itself : (p : ℕ) → First p p
   first-itself p = not-after-itself (squaredDistance place p) p
 
-  -- the choice between two: what holds of both holds of it, and it comes before both
-  pub record Chosen (c p r : ℕ) : Type 0 where
-    pub first-new : First r c
-    pub first-old : First r p
+  -- the choice between two comes before both
+  record Chosen (c p r : ℕ) : Type 0 where
+    first-new : First r c
+    first-old : First r p
 
   chosen : (c p : ℕ) → Chosen c p (cond (pixelPrecedes place c p) c p)
   chosen c p = go (pixelPrecedes place c p) refl
@@ -28,10 +39,6 @@ module _ (place : ℕ) where
       go : (t : Bool) → pixelPrecedes place c p ≡ t → Chosen c p (cond t c p)
       go true e = record { first-new = first-itself c; first-old = precedes-true (squaredDistance place c) c (squaredDistance place p) p e }
       go false e = record { first-new = precedes-false (squaredDistance place c) c (squaredDistance place p) p e; first-old = first-itself p }
-
-  holds-chosen : (P : ℕ → Type 0) (t : Bool) (c p : ℕ) → P c → P p → P (cond t c p)
-  holds-chosen P true c p h g = h
-  holds-chosen P false c p h g = g
 
   -- p among some pixels, none of which comes before it
   pub record NearestFrom (p : ℕ) (l : List ℕ) (o : Option ℕ) : Type 0 where
@@ -53,12 +60,7 @@ module _ (place : ℕ) where
         first = (not-after-trans (later .first-old) (best .first-new), later .first);
       }
 
-  -- of a pixel found, if any
-  abbrev pub Holds : (ℕ → Type 0) → Option ℕ → Type 0
-  Holds P none = Unit {0}
-  Holds P (some p) = P p
-
-  pub nearest-holds-from : (P : ℕ → Type 0) (p : ℕ) (l : List ℕ) → P p → Every P l → Holds P (nearestOf place (some p) l)
+  nearest-holds-from : (P : ℕ → Type 0) (p : ℕ) (l : List ℕ) → P p → Every P l → Holds P (nearestOf place (some p) l)
   nearest-holds-from P p [] h g = h
   nearest-holds-from P p (c ∷ l) h g = nearest-holds-from P (cond (pixelPrecedes place c p) c p) l (holds-chosen P (pixelPrecedes place c p) c p (g .0) h) (g .1)
 
@@ -77,7 +79,7 @@ module _ (place : ℕ) where
   -- nothing is found only where there is nothing
   pub nothing-nearest : (l : List ℕ) → nearestOf place none l ≡ none → l ≡ []
   nothing-nearest [] e = refl
-  nothing-nearest (c ∷ l) e = let z : _≡_ {A = ℕ} 0 1 = cc (nearest-from c l .is) in cc
+  nothing-nearest (c ∷ l) e = zero-is-not-one (cc (nearest-from c l .is))
 
   pub nearest-append : (o : Option ℕ) (l r : List ℕ) → nearestOf place o (l ++ r) ≡ nearestOf place (nearestOf place o l) r
   nearest-append none [] r = refl

@@ -11,14 +11,15 @@ use Rattle.pktree.specs.Lists.{Every}
 use Rattle.pktree.specs.Panel.{Panel, Valid}
 use Rattle.pktree.specs.PixelSet.{member, PixelSet}
 use Rattle.pktree.specs.Tree.{BlockOf, tree, pixels}
+use Rattle.pktree.proofs.Absurd.{zero-is-not-one}
 use Rattle.searching.specs.Distance.{squaredDistance}
 use Rattle.searching.specs.Search.{blockElements, pixelsAmong, nearestOf, Search, search, continued, found, allFarther, isComplete}
 use Rattle.searching.specs.Nearest.{Nearest, limitOf, isSome, codeFound, distanceFound}
-use Rattle.searching.specs.NearestPromises.{nearestOn, IsNearest, AllSearched, NothingMarked, NoFarther, NearestPromises}
+use Rattle.searching.specs.NearestPromises.{nearestOn, AllSearched, NothingMarked, NoFarther, NearestPromises}
 use Rattle.searching.proofs.ListLaws.{every-map, of-member, members}
 use Rattle.searching.proofs.NearestPixel.{First, nearest-first, nearest-holds}
 use Rattle.searching.proofs.OpenedPixels.{Inside}
-use Rattle.searching.proofs.Completion.{none-farther, Farther, all-farther, limit-complete}
+use Rattle.searching.proofs.Completion.{none-farther, all-farther, limit-complete}
 use Rattle.searching.proofs.Limits.{limit-of-found, limit-of-met, limit-greatest}
 use Rattle.searching.proofs.Steps.{continued-keeps, FoundWithin, within-kept, AtLeast, at-least-kept}
 use Rattle.searching.proofs.Budgets.{spent}
@@ -111,7 +112,7 @@ module _ (panel : Panel) (set : List ℕ) (valid : Valid panel) (is : PixelSet p
       go (c ∷ l) e =
           limit-greatest place v (found place (after m)) (after m .met)
           (nearest-holds place (λ q. v ≤ squaredDistance place q) (pixelsAmong (after m .opened)) (later .seen)) (later .unseen)
-          (λ w. let f : set ≡ [] = neither panel set valid is place m (w .0) (w .1) in let z : _≡_ {A = ℕ} 0 1 = cc in omega arith)
+          (λ w. zero-is-not-one (cc (e, neither panel set valid is place m (w .0) (w .1))))
 
   pub nearest-promises : (budget : ℕ) → NearestPromises panel set place budget
   nearest-promises n =

@@ -9,6 +9,19 @@ use Rattle.pktree.specs.Tree.{BlockOf}
 use Rattle.searching.specs.Search.{distanceTo, blockPrecedes, next, others}
 use Rattle.searching.proofs.Precedence.{NotAfter, not-after-itself, not-after-trans, precedes-true, precedes-false}
 
+-- of two blocks one is taken and one left
+both : (P : BlockOf → Type 0) (t : Bool) (b c : BlockOf) → P b → P c → P (cond t c b) × P (cond t b c)
+both P true b c h g = (g, h)
+both P false b c h g = (h, g)
+
+both-back : (P : BlockOf → Type 0) (t : Bool) (b c : BlockOf) → P (cond t c b) → P (cond t b c) → P b × P c
+both-back P true b c h g = (g, h)
+both-back P false b c h g = (h, g)
+
+swapped : (f : BlockOf → ℕ) (t : Bool) (b c : BlockOf) → f (cond t c b) + f (cond t b c) ≡ f b + f c
+swapped f true b c = omega arith
+swapped f false b c = refl
+
 module _ (place : ℕ) where
   -- a is opened before b, or is as near and of the same code
   abbrev pub Earlier : BlockOf → BlockOf → Type 0
@@ -40,14 +53,6 @@ module _ (place : ℕ) where
       let n : BlockOf = cond (blockPrecedes place c b) c b in
       (not-after-trans (next-earlier n l) (taken-earlier b c), next-first n l)
 
-  both : (P : BlockOf → Type 0) (t : Bool) (b c : BlockOf) → P b → P c → P (cond t c b) × P (cond t b c)
-  both P true b c h g = (g, h)
-  both P false b c h g = (h, g)
-
-  both-back : (P : BlockOf → Type 0) (t : Bool) (b c : BlockOf) → P (cond t c b) → P (cond t b c) → P b × P c
-  both-back P true b c h g = (g, h)
-  both-back P false b c h g = (h, g)
-
   -- what holds of all holds of the next and of the others, and back
   pub chosen-every : (P : BlockOf → Type 0) (b : BlockOf) (l : List BlockOf) → P b → Every P l → P (next place b l) × Every P (others place b l)
   chosen-every P b [] h g = (h, tt)
@@ -62,10 +67,6 @@ module _ (place : ℕ) where
       let r = every-chosen P (cond (blockPrecedes place c b) c b) l h (g .1) in
       let t = both-back P (blockPrecedes place c b) b c (r .0) (g .0) in
       (t .0, (t .1, r .1))
-
-  swapped : (f : BlockOf → ℕ) (t : Bool) (b c : BlockOf) → f (cond t c b) + f (cond t b c) ≡ f b + f c
-  swapped f true b c = omega arith
-  swapped f false b c = refl
 
   pub chosen-total : (f : BlockOf → ℕ) (b : BlockOf) (l : List BlockOf) → f (next place b l) + total f (others place b l) ≡ f b + total f l
   chosen-total f b [] = refl

@@ -1,6 +1,6 @@
 -- Blocks are opened in one order, which no search is needed to tell: a block inside another comes after it, and blocks met at one time
 -- lie apart.
-use Prim.Native.Nat.{ℕ, _≤_}
+use Prim.Native.Nat.{ℕ}
 use native.Mathlib.Omega.{arith}
 use mathlib.Core.Path.{_≡_}
 use mathlib.Core.Logic.{_⊎_, inl, inr}
@@ -20,6 +20,20 @@ use Rattle.searching.proofs.TreeBlocks.{Gathered, Within, inside-within
 use Rattle.searching.proofs.Steps.{continued-keeps}
 use Rattle.searching.proofs.Spread.{Apart, apart-codes, chosen-apart, Spread, spread-start, spread-opened}
 
+-- a block and all inside it
+abbrev Throughout : (BlockOf → Type 0) → BlockOf → Type 0
+Throughout P b = P b × Every P (blocks (b .elements))
+
+blocks-joined : (P : BlockOf → Type 0) (f : Forest) → Every (Throughout P) (blockElements f) → Every P (blocks f)
+blocks-joined P empty h = tt
+blocks-joined P (pixel c f) h = blocks-joined P f h
+blocks-joined P (blockAt u i c es f) h = (h .0 .0, every-join P (blocks es) (blocks f) (h .0 .1) (blocks-joined P f (h .1)))
+
+-- every block of the tree is opened or inside a block met
+record EveryBlock (P : BlockOf → Type 0) (s : Search) : Type 0 where
+  opened : Every P (s .opened)
+  met : Every (Throughout P) (s .met)
+
 module _ (place : ℕ) where
   sooner-trans : (a b c : BlockOf) → Sooner place a b → Sooner place b c → Sooner place a c
   sooner-trans a b c p q =
@@ -37,20 +51,6 @@ module _ (place : ℕ) where
 
       second : distanceTo place a ≡ distanceTo place c → distanceTo place b ≡ distanceTo place c
       second e = omega (arith, p .no-farther, q .no-farther)
-
-  -- a block and all inside it
-  abbrev Throughout : (BlockOf → Type 0) → BlockOf → Type 0
-  Throughout P b = P b × Every P (blocks (b .elements))
-
-  blocks-joined : (P : BlockOf → Type 0) (f : Forest) → Every (Throughout P) (blockElements f) → Every P (blocks f)
-  blocks-joined P empty h = tt
-  blocks-joined P (pixel c f) h = blocks-joined P f h
-  blocks-joined P (blockAt u i c es f) h = (h .0 .0, every-join P (blocks es) (blocks f) (h .0 .1) (blocks-joined P f (h .1)))
-
-  -- every block of the tree is opened or inside a block met
-  record EveryBlock (P : BlockOf → Type 0) (s : Search) : Type 0 where
-    opened : Every P (s .opened)
-    met : Every (Throughout P) (s .met)
 
   every-block-before : (P : BlockOf → Type 0) (met opened : List BlockOf) → EveryBlock P (openOf place met opened) → Every P opened × Every (Throughout P) met
   every-block-before P [] opened h = (h .opened, tt)
@@ -112,10 +112,10 @@ module _ (panel : Panel) (set : List ℕ) (valid : Valid panel) (place : ℕ) wh
       continued-keeps place Ordered (λ s o. ordered-opened (s .met) (s .opened) (o .spread) (o .sorted) (o .later)) n
       (search (blockElements (tree panel (member set))) []) (record { spread = spread-start panel set valid place; sorted = tt; later = tt })
 
-  every-block : (P : BlockOf → Type 0) (n : ℕ) → EveryBlock place P (searched (tree panel (member set)) place n) → Every P (blocks (tree panel (member set)))
+  every-block : (P : BlockOf → Type 0) (n : ℕ) → EveryBlock P (searched (tree panel (member set)) place n) → Every P (blocks (tree panel (member set)))
   every-block P n =
-      continued-keeps place (λ s. EveryBlock place P s → Every P (blocks (tree panel (member set)))) (λ s h g. h (every-block-back place P s g)) n
-      (search (blockElements (tree panel (member set))) []) (λ g. blocks-joined place P (tree panel (member set)) (g .met .0, tt))
+      continued-keeps place (λ s. EveryBlock P s → Every P (blocks (tree panel (member set)))) (λ s h g. h (every-block-back place P s g)) n
+      (search (blockElements (tree panel (member set))) []) (λ g. blocks-joined P (tree panel (member set)) (g .met .0, tt))
 
   turn : (l r : List BlockOf) → Every (λ a. Every (Sooner place a) r) l → Every (λ b. Every (λ a. Sooner place a b) l) r
   turn [] r h = every-of-all (λ b. Unit {0}) r (λ b m. tt)
@@ -131,7 +131,7 @@ module _ (panel : Panel) (set : List ℕ) (valid : Valid panel) (place : ℕ) wh
             every-block (λ b. List·Memᴰ b opened ⊎ Every (λ a. Sooner place a b) opened) n
             (record {
               opened = every-of-all (λ b. List·Memᴰ b opened ⊎ Every (λ a. Sooner place a b) opened) opened (λ b m. inl m);
-              met = every-map (λ b. Of b × Every (λ a. Sooner place a b) opened) (Throughout place (λ b. List·Memᴰ b opened ⊎ Every (λ a. Sooner place a b) opened)) met
+              met = every-map (λ b. Of b × Every (λ a. Sooner place a b) opened) (Throughout (λ b. List·Memᴰ b opened ⊎ Every (λ a. Sooner place a b) opened)) met
                   (λ b p. (
                     inr (p .1),
                     every-map (Within panel (member set) valid b) (λ c. List·Memᴰ c opened ⊎ Every (λ a. Sooner place a c) opened) (blocks (b .elements))

@@ -1,5 +1,5 @@
 -- A search that does not keep a block farther than the pixel found by then returns what a search that keeps all returns.
-use Prim.Native.Nat.{ℕ, zero, suc, _+_, min, _≤_, _<_}
+use Prim.Native.Nat.{ℕ, zero, suc, _+_, min, _≤_}
 use native.Mathlib.Omega.{arith}
 use mathlib.Core.Path.{_≡_, refl, sym, ap, ap₂, subst, _∙_}
 use mathlib.Core.Bool.{Bool, true, false, not, _&&_, cond, false≢true}
@@ -10,7 +10,6 @@ use lib.ListN.{length}
 use borrow.Author.Tests.{not-true, ltb-true, ltb-false, lt-ltb, le-ltb, ne-eqb}
 use Rattle.pktree.specs.Lists.{select, total}
 use Rattle.pktree.specs.Tree.{BlockOf}
-use Rattle.pktree.proofs.Absurd.{zero-is-not-one}
 use Rattle.pktree.proofs.WindowParts.{select-join, total-join}
 use Rattle.searching.specs.Distance.{squaredDistance}
 use Rattle.searching.specs.Search.{

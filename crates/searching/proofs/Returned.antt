@@ -9,6 +9,7 @@ use mathlib.Core.List.{List, [], _∷_}
 use Rattle.pktree.specs.Lists.{Every}
 use Rattle.pktree.specs.PixelSet.{member}
 use Rattle.pktree.specs.Tree.{BlockOf}
+use Rattle.pktree.proofs.Absurd.{zero-is-not-one}
 use Rattle.searching.specs.Distance.{squaredDistance}
 use Rattle.searching.specs.Search.{distanceTo, nearestOf, allFarther}
 use Rattle.searching.specs.Nearest.{limitOf, isSome, codeFound, distanceFound}
@@ -50,7 +51,7 @@ module _ (place : ℕ) where
   complete-when none (b ∷ l) = ((λ h. absurd (false≢true h)), back)
     where
       back : ((b ∷ l ≡ []) ⊎ ((false ≡ true) × Every (λ b. 0 < distanceTo place b) (b ∷ l))) → false ≡ true
-      back (inl e) = let z : _≡_ {A = ℕ} 0 1 = cc in absurd (omega arith)
+      back (inl e) = zero-is-not-one (cc e)
       back (inr h) = h .0
   complete-when (some p) l = ((λ h. inr (refl, all-farther place p l .0 h)), back)
     where
@@ -58,7 +59,7 @@ module _ (place : ℕ) where
       back (inl e) = rw e
       back (inr h) = all-farther place p l .1 (h .1)
 
-  pub seen-from : (v : ℕ) (l : List ℕ) (o : Option ℕ) → nearestOf place none l ≡ o → Holds place (λ p. v ≤ squaredDistance place p) o
+  pub seen-from : (v : ℕ) (l : List ℕ) (o : Option ℕ) → nearestOf place none l ≡ o → Holds (λ p. v ≤ squaredDistance place p) o
       → Every (λ q. v ≤ squaredDistance place q) l
   seen-from v l none e h = rw (nothing-nearest place l e) tt
   seen-from v l (some p) e h =
@@ -71,4 +72,4 @@ module _ (place : ℕ) where
   pub greatest : (v : ℕ) (o : Option ℕ) (l : List BlockOf) → (isSome o ≡ true → v ≤ distanceFound place o) → Every (λ b. v ≤ distanceTo place b) l
       → (isSome o ≡ false → l ≡ [] → ⊥) → v ≤ limitOf place o l
   greatest v none l h g n = limit-greatest place v none l tt g (λ w. n refl (w .1))
-  greatest v (some p) l h g n = limit-greatest place v (some p) l (h refl) g (λ w. let z : _≡_ {A = ℕ} 0 1 = cc (w .0) in omega arith)
+  greatest v (some p) l h g n = limit-greatest place v (some p) l (h refl) g (λ w. zero-is-not-one (cc (w .0)))

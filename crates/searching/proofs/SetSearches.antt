@@ -50,7 +50,7 @@ module _ (panel : Panel) (set : List ℕ) (valid : Valid panel) (is : PixelSet p
   abbrev start : Search
   start = search (blockElements (tree panel (member set))) []
 
-  abbrev pub after : ℕ → Search
+  abbrev after : ℕ → Search
   after n = continued place n start
 
   abbrev Of : BlockOf → Type 0
@@ -61,14 +61,14 @@ module _ (panel : Panel) (set : List ℕ) (valid : Valid panel) (is : PixelSet p
       continued-keeps place (λ s. Every Of (s .met)) (gathered-kept panel (member set) valid place) n start (root-gathered panel (member set) valid)
 
   -- the pixels that a search has seen, and those inside the blocks that it has met, are the set
-  pub covered : (P : ℕ → Type 0) (n : ℕ) → Everywhere place P (after n) → Every P set
+  pub covered : (P : ℕ → Type 0) (n : ℕ) → Everywhere P (after n) → Every P set
   covered P n =
-      continued-keeps place (λ s. Everywhere place P s → Every P set) (λ s h g. h (everywhere-back place P s g)) n start
+      continued-keeps place (λ s. Everywhere P s → Every P set) (λ s h g. h (everywhere-back place P s g)) n start
       (λ g. rw (pixels-of-set panel set is) at (every-join P (pixels root) [] (g .unseen .0) tt))
 
-  pub holding : (P : ℕ → Type 0) (n : ℕ) → Every P set → Everywhere place P (after n)
+  pub holding : (P : ℕ → Type 0) (n : ℕ) → Every P set → Everywhere P (after n)
   holding P n h =
-      continued-keeps place (Everywhere place P) (everywhere-kept place P) n start
+      continued-keeps place (Everywhere P) (everywhere-kept place P) n start
       (record { seen = tt; unseen = (every-left P (pixels root) [] (subst (Every P) (sym (pixels-of-set panel set is)) h), tt) })
 
   counted : (n : ℕ) → length (after n .opened) + total heldBy (after n .met) ≡ length (blocks (tree panel (member set)))

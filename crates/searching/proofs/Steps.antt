@@ -19,6 +19,22 @@ use Rattle.searching.proofs.NextBlock.{chosen-every, every-chosen, chos
 use Rattle.searching.proofs.OpenedPixels.{Inside, pixels-split, pixels-joined, among-end, heldBy, held-elements}
 use Rattle.searching.proofs.TreeBlocks.{Gathered, Within, elements-within, pixels-no-nearer, inside-no-nearer}
 
+-- a pixel or block that the search knows of
+pub record Everywhere (P : ℕ → Type 0) (s : Search) : Type 0 where
+  pub seen : Every P (pixelsAmong (s .opened))
+  pub unseen : Every (Inside P) (s .met)
+
+among-opened : (P : ℕ → Type 0) (opened : List BlockOf) (b : BlockOf) → Every P (pixelsAmong opened) → Every P (pixelElements (b .elements))
+    → Every P (pixelsAmong (opened ++ (b ∷ [])))
+among-opened P opened b h g =
+    rw (among-end opened b) (every-join P (pixelsAmong opened) (pixelElements (b .elements)) h g)
+
+opened-among : (P : ℕ → Type 0) (opened : List BlockOf) (b : BlockOf) → Every P (pixelsAmong (opened ++ (b ∷ [])))
+    → Every P (pixelsAmong opened) × Every P (pixelElements (b .elements))
+opened-among P opened b h =
+    let e : Every P (pixelsAmong opened ++ pixelElements (b .elements)) = rw (among-end opened b) at h in
+    (every-left P (pixelsAmong opened) (pixelElements (b .elements)) e, every-right P (pixelsAmong opened) (pixelElements (b .elements)) e)
+
 module _ (place : ℕ) where
   -- what each opened block keeps, a search keeps
   pub continued-keeps : (Q : Search → Type 0) → ((s : Search) → Q s → Q (openNext place s)) → (n : ℕ) (s : Search) → Q s → Q (continued place n s)
@@ -29,22 +45,6 @@ module _ (place : ℕ) where
       go : (t : Bool) → Q (continued place n (openNext place s)) → Q (cond t s (continued place n (openNext place s)))
       go true g = h
       go false g = g
-
-  -- a pixel or block that the search knows of
-  pub record Everywhere (P : ℕ → Type 0) (s : Search) : Type 0 where
-    pub seen : Every P (pixelsAmong (s .opened))
-    pub unseen : Every (Inside P) (s .met)
-
-  among-opened : (P : ℕ → Type 0) (opened : List BlockOf) (b : BlockOf) → Every P (pixelsAmong opened) → Every P (pixelElements (b .elements))
-      → Every P (pixelsAmong (opened ++ (b ∷ [])))
-  among-opened P opened b h g =
-      rw (among-end opened b) (every-join P (pixelsAmong opened) (pixelElements (b .elements)) h g)
-
-  opened-among : (P : ℕ → Type 0) (opened : List BlockOf) (b : BlockOf) → Every P (pixelsAmong (opened ++ (b ∷ [])))
-      → Every P (pixelsAmong opened) × Every P (pixelElements (b .elements))
-  opened-among P opened b h =
-      let e : Every P (pixelsAmong opened ++ pixelElements (b .elements)) = rw (among-end opened b) at h in
-      (every-left P (pixelsAmong opened) (pixelElements (b .elements)) e, every-right P (pixelsAmong opened) (pixelElements (b .elements)) e)
 
   -- an opened block hides no pixel and brings no new one
   everywhere-opened : (P : ℕ → Type 0) (met opened : List BlockOf) → Every P (pixelsAmong opened) → Every (Inside P) met → Everywhere P (openOf place met opened)
@@ -150,7 +150,7 @@ module _ (panel : Panel) (marked : ℕ → Bool) (valid : Valid panel) (place : 
       (λ c w. omega (arith, d .0, inside-no-nearer panel marked valid place n c (t .0) w)) (elements-within panel marked valid n (t .0)) in
       record {
         gathered = gathered-opened (b ∷ l) opened h;
-        seen = among-opened place (λ q. v ≤ squaredDistance place q) opened n g (pixels-split (λ q. v ≤ squaredDistance place q) (n .elements) far .0);
+        seen = among-opened (λ q. v ≤ squaredDistance place q) opened n g (pixels-split (λ q. v ≤ squaredDistance place q) (n .elements) far .0);
         unseen = every-join (λ b. v ≤ distanceTo place b) (blockElements (n .elements)) (others place b l) inner (d .1);
       }
 

@@ -18,7 +18,7 @@ use Rattle.searching.proofs.Distances.{nearest-position}
 use Rattle.searching.proofs.ListLaws.{every-map, every-right, every-of-all}
 
 -- a block's elements that are blocks are among all blocks inside it
-pub elements-inside : (P : BlockOf → Type 0) (f : Forest) → Every P (blocks f) → Every P (blockElements f)
+elements-inside : (P : BlockOf → Type 0) (f : Forest) → Every P (blocks f) → Every P (blockElements f)
 elements-inside P empty h = tt
 elements-inside P (pixel c f) h = elements-inside P f h
 elements-inside P (blockAt u i c es f) h = (h .0, elements-inside P f (every-right P (blocks es) (blocks f) (h .1)))
@@ -77,7 +77,7 @@ module _ (panel : Panel) (marked : ℕ → Bool) (valid : Valid panel) where
   pub elements-within : (b : BlockOf) → Gathered b → Every (Within b) (blockElements (b .elements))
   elements-within b h = elements-inside (Within b) (b .elements) (inside-within b h)
 
-  pub pixels-are-positions : (b : BlockOf) → Gathered b → Every (Position (b .level) (b .code)) (pixels (b .elements))
+  pixels-are-positions : (b : BlockOf) → Gathered b → Every (Position (b .level) (b .code)) (pixels (b .elements))
   pixels-are-positions b h =
       rw (h .gathered, pixels-of-gather marked (panel .k) (b .level) (b .code))
       (marked-positions marked (b .level) (b .code) (4 ^ b .level) (b .code) (omega arith) (omega arith))
