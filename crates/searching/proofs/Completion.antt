@@ -1,12 +1,11 @@
 -- The test for completeness, and the limit: both are told by the next block alone.
-use Prim.Native.Nat.{ℕ, _≤_, _<_}
+use Prim.Native.Nat.{ℕ, suc, _≤_, _<_}
 use native.Mathlib.Omega.{arith}
 use mathlib.Core.Path.{_≡_, refl, sym, _∙_}
 use mathlib.Core.Bool.{Bool, true, false, false≢true, and-eq-true-iff}
 use mathlib.Core.Logic.{_↔_}
 use mathlib.Core.Option.{Option, none, some}
 use mathlib.Core.List.{List, [], _∷_}
-use lib.Dec.{ltb}
 use borrow.Author.Tests.{ltb-true, ltb-false, lt-ltb}
 use Rattle.pktree.specs.Lists.{Every}
 use Rattle.pktree.specs.Tree.{BlockOf}
@@ -27,12 +26,18 @@ module _ (place : ℕ) where
   abbrev pub Farther : ℕ → BlockOf → Type 0
   Farther p b = squaredDistance place p < distanceTo place b
 
+  pub is-farther : (p : ℕ) (b : BlockOf) → isFarther place (some p) b ≡ true → Farther p b
+  is-farther p b h = ltb-true (squaredDistance place p) (distanceTo place b) h
+
+  pub not-farther : (p : ℕ) (b : BlockOf) → isFarther place (some p) b ≡ false → distanceTo place b ≤ squaredDistance place p
+  not-farther p b h = ltb-false (squaredDistance place p) (distanceTo place b) h
+
   pub all-farther : (p : ℕ) (l : List BlockOf) → (allFarther place (some p) l ≡ true) ↔ Every (Farther p) l
   all-farther p [] = ((λ h. tt), (λ h. refl))
   all-farther p (b ∷ l) =
       let both = and-eq-true-iff (isFarther place (some p) b) (allFarther place (some p) l) in
       let later = all-farther p l in (
-        (λ h. let e = both .0 h in (ltb-true (squaredDistance place p) (distanceTo place b) (e .0), later .0 (e .1))),
+        (λ h. let e = both .0 h in (is-farther p b (e .0), later .0 (e .1))),
         (λ h. both .1 (lt-ltb (squaredDistance place p) (distanceTo place b) (h .0), later .1 (h .1))),
       )
 
@@ -48,12 +53,11 @@ module _ (place : ℕ) where
 
   pub farther-next : (o : Option ℕ) (b : BlockOf) (l : List BlockOf) → allFarther place o (b ∷ l) ≡ isFarther place o (next place b l)
   farther-next none b l = refl
-  farther-next (some p) b l = go (ltb (squaredDistance place p) (distanceTo place (next place b l))) refl (allFarther place (some p) (b ∷ l)) refl
+  farther-next (some p) b l = go (isFarther place (some p) (next place b l)) refl (allFarther place (some p) (b ∷ l)) refl
     where
-      go : (t : Bool) → ltb (squaredDistance place p) (distanceTo place (next place b l)) ≡ t → (u : Bool) → allFarther place (some p) (b ∷ l) ≡ u → u ≡ t
-      go true e u f = sym f ∙ all-farther p (b ∷ l) .1 (from-next _ b l (ltb-true (squaredDistance place p) (distanceTo place (next place b l)) e))
-      go false e true f =
-          absurd (omega (arith, ltb-false (squaredDistance place p) (distanceTo place (next place b l)) e, to-next (Farther p) b l (all-farther p (b ∷ l) .0 f)))
+      go : (t : Bool) → isFarther place (some p) (next place b l) ≡ t → (u : Bool) → allFarther place (some p) (b ∷ l) ≡ u → u ≡ t
+      go true e u f = sym f ∙ all-farther p (b ∷ l) .1 (from-next (suc (squaredDistance place p)) b l (is-farther p (next place b l) e))
+      go false e true f = absurd (omega (arith, not-farther p (next place b l) e, to-next (Farther p) b l (all-farther p (b ∷ l) .0 f)))
       go false e false f = refl
 
   -- the limit of a complete search, and of one that is not
@@ -67,7 +71,7 @@ module _ (place : ℕ) where
 
   not-below : (o : Option ℕ) (b : BlockOf) → isFarther place o b ≡ false → Holds (λ p. distanceTo place b ≤ squaredDistance place p) o
   not-below none b h = tt
-  not-below (some p) b h = ltb-false (squaredDistance place p) (distanceTo place b) h
+  not-below (some p) b h = not-farther p b h
 
   pub limit-incomplete : (o : Option ℕ) (b : BlockOf) (l : List BlockOf) → isFarther place o (next place b l) ≡ false
       → limitOf place o (b ∷ l) ≡ distanceTo place (next place b l)

@@ -32,7 +32,7 @@ module _ (place : ℕ) where
 
   pub limit-of-found : (o : Option ℕ) (l : List BlockOf) → Holds (λ p. limitOf place o l ≤ squaredDistance place p) o
   limit-of-found none l = tt
-  limit-of-found (some p) l = least-first (squaredDistance place p) l
+  limit-of-found (some p) l = omega (arith, least-first (squaredDistance place p) l)
 
   pub limit-of-met : (o : Option ℕ) (l : List BlockOf) → Every (λ b. limitOf place o l ≤ distanceTo place b) l
   limit-of-met none [] = tt

@@ -5,9 +5,8 @@ use mathlib.Core.Path.{_≡_, refl, sym, ap, ap₂, subst, _∙_}
 use mathlib.Core.Bool.{Bool, true, false, not, _&&_, cond, false≢true}
 use mathlib.Core.Option.{Option, none, some}
 use mathlib.Core.List.{List, [], _∷_, _++_}
-use lib.Dec.{ltb}
 use lib.ListN.{length}
-use borrow.Author.Tests.{not-true, ltb-true, ltb-false, lt-ltb, le-ltb, ne-eqb}
+use borrow.Author.Tests.{not-true}
 use Rattle.pktree.specs.Lists.{select, total}
 use Rattle.pktree.specs.Tree.{BlockOf}
 use Rattle.pktree.proofs.WindowParts.{select-join, total-join}
@@ -32,7 +31,9 @@ use Rattle.searching.specs.Search.{
 }
 use Rattle.searching.specs.Nearest.{Nearest, leastDistance, limitOf, nearestBy}
 use Rattle.searching.proofs.ListLaws.{select-narrow, total-select}
+use Rattle.searching.proofs.Precedence.{nearer-precedes, farther-follows}
 use Rattle.searching.proofs.NearestPixel.{nearest-from}
+use Rattle.searching.proofs.Completion.{is-farther, not-farther}
 use Rattle.searching.proofs.OpenedPixels.{heldBy}
 use Rattle.searching.proofs.Steps.{found-end, count-kept}
 use Rattle.searching.proofs.Budgets.{complete-stays, none-left, goes-on}
@@ -103,12 +104,12 @@ module _ (place : ℕ) where
 
   least-near : (p n : ℕ) (l : List BlockOf) → n ≤ squaredDistance place p → leastDistance place n (select (isNear (some p)) l) ≡ leastDistance place n l
   least-near p n [] h = refl
-  least-near p n (b ∷ l) h = go (ltb (squaredDistance place p) (distanceTo place b)) refl (λ m. least-near p m l)
+  least-near p n (b ∷ l) h = go (isFarther place (some p) b) refl (λ m. least-near p m l)
     where
-      go : (t : Bool) → ltb (squaredDistance place p) (distanceTo place b) ≡ t
+      go : (t : Bool) → isFarther place (some p) b ≡ t
           → ((m : ℕ) → m ≤ squaredDistance place p → leastDistance place m (select (isNear (some p)) l) ≡ leastDistance place m l)
           → leastDistance place n (cond (not t) (b ∷ select (isNear (some p)) l) (select (isNear (some p)) l)) ≡ leastDistance place (min n (distanceTo place b)) l
-      go true e ih = let same : min n (distanceTo place b) ≡ n = omega (arith, ltb-true (squaredDistance place p) (distanceTo place b) e) in rw same (ih n h)
+      go true e ih = let same : min n (distanceTo place b) ≡ n = omega (arith, is-farther place p b e) in rw same (ih n h)
       go false e ih = ih (min n (distanceTo place b)) (omega arith)
 
   all-near : (l : List BlockOf) → select (isNear none) l ≡ l
@@ -117,22 +118,18 @@ module _ (place : ℕ) where
 
   limit-near : (o : Option ℕ) (l : List BlockOf) → limitOf place o (select (isNear o) l) ≡ limitOf place o l
   limit-near none l = rw (all-near l)
-  limit-near (some p) l = least-near p (squaredDistance place p) l (omega arith)
+  limit-near (some p) l = omega (arith, least-near p (squaredDistance place p) l (omega arith))
 
   -- of a near block and a farther one the near one is opened first
   near-first : (o : Option ℕ) (a b : BlockOf) → isFarther place o a ≡ false → isFarther place o b ≡ true → blockPrecedes place a b ≡ true
   near-first none a b h g = absurd (false≢true g)
   near-first (some p) a b h g =
-      let near = ltb-false (squaredDistance place p) (distanceTo place a) h in
-      let far = ltb-true (squaredDistance place p) (distanceTo place b) g in
-      rw (lt-ltb (distanceTo place a) (distanceTo place b) (omega arith))
+      nearer-precedes (distanceTo place a) (a .code) (distanceTo place b) (b .code) (omega (arith, not-farther place p a h, is-farther place p b g))
 
   farther-later : (o : Option ℕ) (a b : BlockOf) → isFarther place o a ≡ false → isFarther place o b ≡ true → blockPrecedes place b a ≡ false
   farther-later none a b h g = absurd (false≢true g)
   farther-later (some p) a b h g =
-      let near = ltb-false (squaredDistance place p) (distanceTo place a) h in
-      let far = ltb-true (squaredDistance place p) (distanceTo place b) g in
-      rw (le-ltb (distanceTo place b) (distanceTo place a) (omega arith), ne-eqb (distanceTo place b) (distanceTo place a) (λ e. omega arith))
+      farther-follows (distanceTo place b) (b .code) (distanceTo place a) (a .code) (omega (arith, not-farther place p a h, is-farther place p b g))
 
   -- the next block, and of the others those that are near, are those of the near blocks alone
   record SameNext (o : Option ℕ) (b : BlockOf) (l : List BlockOf) (c : BlockOf) (m : List BlockOf) : Type 0 where
@@ -193,11 +190,15 @@ module _ (place : ℕ) where
   -- a block that is near by a pixel found later was near before
   near-before : (o : Option ℕ) (more : List ℕ) (b : BlockOf) → isNear (nearestOf place o more) b ≡ true → isNear o b ≡ true
   near-before none more b h = refl
-  near-before (some p) more b h =
-      let n = nearest-from place p more in
-      let g : isNear (some (n .pixel)) b ≡ true = rw (n .is) at h in
-      let near = ltb-false (squaredDistance place (n .pixel)) (distanceTo place b) (not-true (ltb (squaredDistance place (n .pixel)) (distanceTo place b)) g) in
-      rw (le-ltb (squaredDistance place p) (distanceTo place b) (omega (arith, n .first-old .no-farther)))
+  near-before (some p) more b h = go (isFarther place (some p) b) refl
+    where
+      go : (t : Bool) → isFarther place (some p) b ≡ t → not t ≡ true
+      go true e =
+          let n = nearest-from place p more in
+          let g : isNear (some (n .pixel)) b ≡ true = rw (n .is) at h in
+          let near = not-farther place (n .pixel) b (not-true (isFarther place (some (n .pixel)) b) g) in
+          absurd (omega (arith, near, n .first-old .no-farther, is-farther place p b e))
+      go false e = refl
 
   -- two searches that have opened the same and have met the same near blocks
   record Alike (s t : Search) : Type 0 where
