@@ -27,24 +27,30 @@ module _ (place : ℕ) where
   abbrev pub Earlier : BlockOf → BlockOf → Type 0
   Earlier a b = NotAfter (distanceTo place a) (a .code) (distanceTo place b) (b .code)
 
-  -- of two blocks the one taken comes before the one left
+  pub precedes-earlier : (a b : BlockOf) → blockPrecedes place a b ≡ true → Earlier a b
+  precedes-earlier a b h = precedes-true (distanceTo place a) (a .code) (distanceTo place b) (b .code) h
+
+  pub follows-later : (a b : BlockOf) → blockPrecedes place a b ≡ false → Earlier b a
+  follows-later a b h = precedes-false (distanceTo place a) (a .code) (distanceTo place b) (b .code) h
+
+  -- of two blocks the one taken comes before the one left, and not after the first
   taken-earlier : (b c : BlockOf) → Earlier (cond (blockPrecedes place c b) c b) (cond (blockPrecedes place c b) b c)
   taken-earlier b c = go (blockPrecedes place c b) refl
     where
       go : (t : Bool) → blockPrecedes place c b ≡ t → Earlier (cond t c b) (cond t b c)
-      go true e = precedes-true (distanceTo place c) (c .code) (distanceTo place b) (b .code) e
-      go false e = precedes-false (distanceTo place c) (c .code) (distanceTo place b) (b .code) e
+      go true e = precedes-earlier c b e
+      go false e = follows-later c b e
+
+  taken-first : (b c : BlockOf) → Earlier (cond (blockPrecedes place c b) c b) b
+  taken-first b c = go (blockPrecedes place c b) refl
+    where
+      go : (t : Bool) → blockPrecedes place c b ≡ t → Earlier (cond t c b) b
+      go true e = precedes-earlier c b e
+      go false e = not-after-itself (distanceTo place b) (b .code)
 
   next-earlier : (b : BlockOf) (l : List BlockOf) → Earlier (next place b l) b
   next-earlier b [] = not-after-itself (distanceTo place b) (b .code)
-  next-earlier b (c ∷ l) = not-after-trans (next-earlier (cond (blockPrecedes place c b) c b) l) (taken b c)
-    where
-      taken : (b c : BlockOf) → Earlier (cond (blockPrecedes place c b) c b) b
-      taken b c = go (blockPrecedes place c b) refl
-        where
-          go : (t : Bool) → blockPrecedes place c b ≡ t → Earlier (cond t c b) b
-          go true e = precedes-true (distanceTo place c) (c .code) (distanceTo place b) (b .code) e
-          go false e = not-after-itself (distanceTo place b) (b .code)
+  next-earlier b (c ∷ l) = not-after-trans (next-earlier (cond (blockPrecedes place c b) c b) l) (taken-first b c)
 
   -- the next comes before all others
   pub next-first : (b : BlockOf) (l : List BlockOf) → Every (Earlier (next place b l)) (others place b l)

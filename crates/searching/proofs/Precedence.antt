@@ -4,7 +4,7 @@ use native.Mathlib.Omega.{arith}
 use mathlib.Core.Path.{_≡_, refl, sym, _∙_}
 use mathlib.Core.Bool.{Bool, true, false, _&&_, _||_, false≢true}
 use lib.Dec.{ltb, eqb}
-use borrow.Author.Tests.{ltb-true, ltb-false, lt-ltb, le-ltb, eqb-true, eq-eqb, ne-eqb}
+use borrow.Author.Tests.{ltb-true, ltb-false, eqb-true, eq-eqb}
 use Rattle.searching.specs.Search.{precedes}
 
 -- nearer, or as near and of no higher code
@@ -24,12 +24,6 @@ not-after-trans {a} {b} {c} {d} {e} {f} p q =
           let v : c ≡ e = omega (arith, p .no-farther, q .no-farther) in
           omega (arith, p .no-higher u, q .no-higher v);
     }
-
-pub nearer-precedes : (d c d′ c′ : ℕ) → d < d′ → precedes d c d′ c′ ≡ true
-nearer-precedes d c d′ c′ h = rw (lt-ltb d d′ h)
-
-pub farther-follows : (d c d′ c′ : ℕ) → d′ < d → precedes d c d′ c′ ≡ false
-farther-follows d c d′ c′ h = rw (le-ltb d d′ (omega arith), ne-eqb d d′ (λ e. omega arith))
 
 pub precedes-true : (d c d′ c′ : ℕ) → precedes d c d′ c′ ≡ true → NotAfter d c d′ c′
 precedes-true d c d′ c′ = go (ltb d d′) refl (eqb d d′) refl (ltb c c′) refl

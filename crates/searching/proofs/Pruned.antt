@@ -9,6 +9,7 @@ use lib.ListN.{length}
 use borrow.Author.Tests.{not-true}
 use Rattle.pktree.specs.Lists.{select, total}
 use Rattle.pktree.specs.Tree.{BlockOf}
+use Rattle.pktree.proofs.Absurd.{false-unless}
 use Rattle.pktree.proofs.WindowParts.{select-join, total-join}
 use Rattle.searching.specs.Distance.{squaredDistance}
 use Rattle.searching.specs.Search.{
@@ -31,8 +32,8 @@ use Rattle.searching.specs.Search.{
 }
 use Rattle.searching.specs.Nearest.{Nearest, leastDistance, limitOf, nearestBy}
 use Rattle.searching.proofs.ListLaws.{select-narrow, total-select}
-use Rattle.searching.proofs.Precedence.{nearer-precedes, farther-follows}
 use Rattle.searching.proofs.NearestPixel.{nearest-from}
+use Rattle.searching.proofs.NextBlock.{precedes-earlier, follows-later}
 use Rattle.searching.proofs.Completion.{is-farther, not-farther}
 use Rattle.searching.proofs.OpenedPixels.{heldBy}
 use Rattle.searching.proofs.Steps.{found-end, count-kept}
@@ -123,13 +124,16 @@ module _ (place : ℕ) where
   -- of a near block and a farther one the near one is opened first
   near-first : (o : Option ℕ) (a b : BlockOf) → isFarther place o a ≡ false → isFarther place o b ≡ true → blockPrecedes place a b ≡ true
   near-first none a b h g = absurd (false≢true g)
-  near-first (some p) a b h g =
-      nearer-precedes (distanceTo place a) (a .code) (distanceTo place b) (b .code) (omega (arith, not-farther place p a h, is-farther place p b g))
+  near-first (some p) a b h g = go (blockPrecedes place a b) refl
+    where
+      go : (t : Bool) → blockPrecedes place a b ≡ t → t ≡ true
+      go true e = refl
+      go false e = absurd (omega (arith, not-farther place p a h, is-farther place p b g, follows-later place a b e .no-farther))
 
   farther-later : (o : Option ℕ) (a b : BlockOf) → isFarther place o a ≡ false → isFarther place o b ≡ true → blockPrecedes place b a ≡ false
   farther-later none a b h g = absurd (false≢true g)
   farther-later (some p) a b h g =
-      farther-follows (distanceTo place b) (b .code) (distanceTo place a) (a .code) (omega (arith, not-farther place p a h, is-farther place p b g))
+      false-unless (blockPrecedes place b a) (λ e. omega (arith, not-farther place p a h, is-farther place p b g, precedes-earlier place b a e .no-farther))
 
   -- the next block, and of the others those that are near, are those of the near blocks alone
   record SameNext (o : Option ℕ) (b : BlockOf) (l : List BlockOf) (c : BlockOf) (m : List BlockOf) : Type 0 where

@@ -46,7 +46,21 @@ module _ (place : ℕ) where
       go true g = h
       go false g = g
 
-  -- an opened block hides no pixel and brings no new one
+  -- an opened block hides no pixel
+  everywhere-before : (P : ℕ → Type 0) (met opened : List BlockOf) → Everywhere P (openOf place met opened) → Every P (pixelsAmong opened) × Every (Inside P) met
+  everywhere-before P [] opened h = (h .seen, tt)
+  everywhere-before P (b ∷ l) opened h =
+      let n : BlockOf = next place b l in
+      let e = opened-among P opened n (h .seen) in
+      let inner = every-left (Inside P) (blockElements (n .elements)) (others place b l) (h .unseen) in
+      let rest = every-right (Inside P) (blockElements (n .elements)) (others place b l) (h .unseen) in
+      let t = every-chosen place (Inside P) b l (pixels-joined P (n .elements) (e .1) inner) rest in
+      (e .0, (t .0, t .1))
+
+  pub everywhere-back : (P : ℕ → Type 0) (s : Search) → Everywhere P (openNext place s) → Everywhere P s
+  everywhere-back P s h = let e = everywhere-before P (s .met) (s .opened) h in record { seen = e .0; unseen = e .1 }
+
+  -- and brings no new one
   everywhere-opened : (P : ℕ → Type 0) (met opened : List BlockOf) → Every P (pixelsAmong opened) → Every (Inside P) met → Everywhere P (openOf place met opened)
   everywhere-opened P [] opened h g = record { seen = h; unseen = tt }
   everywhere-opened P (b ∷ l) opened h g =
@@ -60,19 +74,6 @@ module _ (place : ℕ) where
 
   pub everywhere-kept : (P : ℕ → Type 0) (s : Search) → Everywhere P s → Everywhere P (openNext place s)
   everywhere-kept P s h = everywhere-opened P (s .met) (s .opened) (h .seen) (h .unseen)
-
-  everywhere-before : (P : ℕ → Type 0) (met opened : List BlockOf) → Everywhere P (openOf place met opened) → Every P (pixelsAmong opened) × Every (Inside P) met
-  everywhere-before P [] opened h = (h .seen, tt)
-  everywhere-before P (b ∷ l) opened h =
-      let n : BlockOf = next place b l in
-      let e = opened-among P opened n (h .seen) in
-      let inner = every-left (Inside P) (blockElements (n .elements)) (others place b l) (h .unseen) in
-      let rest = every-right (Inside P) (blockElements (n .elements)) (others place b l) (h .unseen) in
-      let t = every-chosen place (Inside P) b l (pixels-joined P (n .elements) (e .1) inner) rest in
-      (e .0, (t .0, t .1))
-
-  pub everywhere-back : (P : ℕ → Type 0) (s : Search) → Everywhere P (openNext place s) → Everywhere P s
-  everywhere-back P s h = let e = everywhere-before P (s .met) (s .opened) h in record { seen = e .0; unseen = e .1 }
 
   -- opened blocks and blocks still held by those met are always as many
   count-opened : (met opened : List BlockOf)
