@@ -1,4 +1,4 @@
--- What holds of every element of a list, and of the elements that pass a test.
+-- What holds of every element of a list, of its elements that pass a test, and of its pairs.
 use Prim.Native.Nat.{ℕ, _+_, _≤_}
 use native.Mathlib.Omega.{arith}
 use mathlib.Core.Path.{_≡_, refl, sym, _∙_}
@@ -60,7 +60,7 @@ every-select P test (a ∷ l) r h = go (test a) (every-select P test l r (h .1))
     go true ih = (h .0, ih)
     go false ih = ih
 
--- pairs of blocks
+-- the same of pairs
 pub in-order-select : (R : BlockOf → BlockOf → Type 0) (test : BlockOf → Bool) (l r : List BlockOf) → InOrder R (l ++ r) → InOrder R (select test l ++ r)
 in-order-select R test [] r h = h
 in-order-select R test (a ∷ l) r h = go (test a) (in-order-select R test l r (h .1))
@@ -73,7 +73,7 @@ pub in-order-join : (R : BlockOf → BlockOf → Type 0) (l r : List BlockOf) �
 in-order-join R [] r h g u = g
 in-order-join R (a ∷ l) r h g u = (every-join (R a) l r (h .0) (u .0), in-order-join R l r (h .1) g (u .1))
 
--- the same of a set of pixels and its members
+-- a list of pixels and its members
 pub of-member : (P : ℕ → Type 0) (l : List ℕ) (x : ℕ) → Every P l → member l x ≡ true → P x
 of-member P [] x h e = absurd (false≢true e)
 of-member P (c ∷ l) x h e = go (eqb c x) refl (of-member P l x (h .1)) e

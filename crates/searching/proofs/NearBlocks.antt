@@ -17,6 +17,7 @@ use Rattle.searching.proofs.NextBlock.{precedes-earlier, follows-later}
 use Rattle.searching.proofs.Completion.{is-farther, not-farther}
 
 module _ (place : ℕ) where
+  -- not farther than the pixel found, if any
   abbrev pub isNear : Option ℕ → BlockOf → Bool
   isNear o b = not (isFarther place o b)
 

@@ -95,6 +95,7 @@ module _ (panel : Panel) (set : List ℕ) (valid : Valid panel) (is : PixelSet p
         unseen = subst (Every (Inside (λ q. ⊥))) (sym f) tt;
       }))
 
+  -- a budget of all the held blocks completes the search
   pub spent-all : (n : ℕ) → length (blocks (tree panel (member set))) ≤ n → isComplete place (after n) ≡ true
   spent-all n h = go (decLt (length (after n .opened)) n)
     where
@@ -114,5 +115,6 @@ module _ (panel : Panel) (set : List ℕ) (valid : Valid panel) (is : PixelSet p
       let r : root ≡ empty = no-elements root (omega (arith, few, ap length p)) in
       omega (arith, length-blocks (tree panel (member set)), ap blockCount r)
 
+  -- a larger budget goes on where a smaller one ended
   pub further : (n m : ℕ) → n ≤ m → continued place (m - n) (after n) ≡ after m
   further n m h = sym (continued-further place n (m - n) start) ∙ ap (λ (b : ℕ). continued place b start) (omega arith)

@@ -19,7 +19,7 @@ use Rattle.searching.proofs.NextBlock.{chosen-every, every-chosen, chos
 use Rattle.searching.proofs.OpenedPixels.{Inside, pixels-split, pixels-joined, among-end, heldBy, held-elements}
 use Rattle.searching.proofs.TreeBlocks.{Gathered, Within, elements-within, pixels-no-nearer, inside-no-nearer}
 
--- a pixel or block that the search knows of
+-- of every pixel among the elements of opened blocks, and of every pixel inside a block met
 pub record Everywhere (P : ℕ → Type 0) (s : Search) : Type 0 where
   pub seen : Every P (pixelsAmong (s .opened))
   pub unseen : Every (Inside P) (s .met)
