@@ -1,0 +1,4 @@
+pub mod EntryLaws
+pub mod FilledHoles
+pub mod HeapLaws
+pub mod HoleMoves
