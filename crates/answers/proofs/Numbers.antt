@@ -2,7 +2,7 @@
 use native.Mathlib.Omega.{arith}
 use mathlib.Core.Path.{_≡_}
 use Rattle.answers.specs.declared.Refusal.{Refusal}
-use Rattle.answers.specs.declared.Refusal.the-variants.{BeyondLimits, StoreTooShort, NoRegister, OffPanel, AlreadyMarked, Full, NotMarked, WindowReversed, OutputTooShort, NotAnImage, ImageUnlike, ImageDamaged, StoreDamaged, NotAscending}
+use Rattle.answers.specs.declared.Refusal.the-variants.{BeyondLimits, StoreTooShort, NoRegister, OffPanel, AlreadyMarked, Full, NotMarked, WindowReversed, OutputTooShort, NotAnImage, ImageUnlike, ImageDamaged, StoreDamaged, NotAscending, NoBudget}
 use Rattle.answers.specs.Answer.{numberOf}
 
 pub is-refused : (refusal : Refusal) → numberOf refusal ≡ 0 → ⊥
@@ -20,3 +20,4 @@ is-refused ImageUnlike e = omega arith
 is-refused ImageDamaged e = omega arith
 is-refused StoreDamaged e = omega arith
 is-refused NotAscending e = omega arith
+is-refused NoBudget e = omega arith

@@ -4,7 +4,7 @@ ghost use Rattle.answers.specs.Answer.{answer, numberOf};
 
 pub mod judging;
 
-// 01 "Who is refused, and how", and 02, P2: the refusals, in the order of their numbers, 1 to 14.
+// 01 "Who is refused, and how", and 02: the refusals, in the order of their numbers, 1 to 15.
 pub enum Refusal {
     BeyondLimits,
     StoreTooShort,
@@ -20,6 +20,7 @@ pub enum Refusal {
     ImageDamaged,
     StoreDamaged,
     NotAscending,
+    NoBudget,
 }
 
 // 01's number of a refusal.
@@ -41,6 +42,7 @@ pub fn number_of(refusal: Refusal) -> u32
         Refusal::ImageDamaged => 12,
         Refusal::StoreDamaged => 13,
         Refusal::NotAscending => 14,
+        Refusal::NoBudget => 15,
     }
 }
 
@@ -69,6 +71,23 @@ pub enum Asking {
 // What count answers.
 pub enum Counting {
     Found { found: u32, opened: u32 },
+    Refused(Refusal),
+}
+
+// 02, P5: the nearest pixel found, if any, its squared distance, the blocks opened, the squared distance below which no marked pixel can be,
+// and whether the search is complete.
+pub struct Nearest {
+    pub found: bool,
+    pub code: u32,
+    pub distance: u64,
+    pub opened: u32,
+    pub limit: u64,
+    pub complete: bool,
+}
+
+// What nearest answers.
+pub enum Searching {
+    Ended(Nearest),
     Refused(Refusal),
 }
 

@@ -2,3 +2,4 @@ pub mod Marks
 pub mod Readings
 pub mod WholeImage
 pub mod Spoils
+pub mod NearestOfAll

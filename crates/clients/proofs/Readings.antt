@@ -1,6 +1,7 @@
 -- What the calls that only read answer on the first panel: by equation, and worked out.
 use Prim.Native.Nat.{ℕ, _≤_, _<_}
 use native.Mathlib.Omega.{arith}
+use mathlib.Core.Bool.{true, false}
 use mathlib.Core.Path.{_≡_, refl, ap, sym, subst, _∙_}
 use mathlib.Core.List.{List, [], _∷_, _++_}
 use lib.ListN.{length, drop}
@@ -11,16 +12,20 @@ use Rattle.pktree.specs.Elements.{gather}
 use Rattle.pktree.specs.Tree.{tree}
 use Rattle.pktree.specs.Window.{Ordered, someFrom, openedByPixel}
 use Rattle.pktree.specs.Image.{image}
+use Rattle.searching.specs.Distance.{squaredDistance, blockDistance}
+use Rattle.searching.specs.Search.{continued}
+use Rattle.searching.specs.NearestPromises.{nearestOn}
 use Rattle.measures.specs.declared.sizes.Sizes.{Sizes}
 use Rattle.measures.specs.Sizes.{panelOf, sizesOf}
 use Rattle.promises.specs.Effect.{HasPixelOn}
 use Rattle.image.specs.Held.{HasImage}
-use Rattle.promises.specs.Answer.{Answer, accepted, yesNo}
-use Rattle.promises.specs.Calls.{asked, MarkMeets, ClearMeets, AskMeets, windowGiven, CountMeets, ListMeets, SaveMeets, LoadMeets, FillMeets, CheckMeets}
+use Rattle.promises.specs.Answer.{Answer, accepted, yesNo, searched}
+use Rattle.promises.specs.Calls.{asked, MarkMeets, ClearMeets, AskMeets, NearestMeets, windowGiven, CountMeets, ListMeets, SaveMeets, LoadMeets, FillMeets, CheckMeets}
 use Rattle.promises.proofs.Answers.{refusal-of}
 use Rattle.promises.proofs.Exactly.{image-loaded, set-filled, check-answers}
 use Rattle.promises.proofs.OnSound.{mark-already, clear-unmarked, clear-removes, ask-answers, count-answers, list-writes, list-short, save-writes, save-short}
-use Rattle.clients.specs.Known.{firstSet, HoldsOf9, HoldsFirst, firstImage, PanelAsked, partFound, partAnswer, PanelCounted, PanelListed, PanelSaved, ClearedListed, SpoiltOf9}
+use Rattle.promises.proofs.Nearest.{nearest-answers}
+use Rattle.clients.specs.Known.{firstSet, HoldsOf9, HoldsFirst, firstImage, PanelAsked, values, PanelSearched, partFound, partAnswer, PanelCounted, PanelListed, PanelSaved, ClearedListed, SpoiltOf9}
 
 -- the set is one of the panel, and its image is these bytes, by computation
 has-image : HasImage (panelOf (asked 3 3 9)) 9 firstImage firstSet
@@ -42,6 +47,14 @@ marked-0 = refl
 unmarked-3 : accepted (yesNo (member firstSet (codeOf 1 1))) (openedByPixel (codeOf 1 1) (tree (panelOf (asked 3 3 9)) (member firstSet))) ≡ accepted 0 2
 unfolding interleave gather
 unmarked-3 = refl
+
+rough-search : nearestOn (panelOf (asked 3 3 9)) firstSet (codeOf 1 1) 1 ≡ values true 60 50 1 0 false
+unfolding interleave gather gatherBits squaredDistance blockDistance continued
+rough-search = refl
+
+whole-search : nearestOn (panelOf (asked 3 3 9)) firstSet (codeOf 1 1) 9 ≡ values true 1 1 2 1 true
+unfolding interleave gather gatherBits squaredDistance blockDistance continued
+whole-search = refl
 
 upper-right : partAnswer (windowGiven 4 4 7 7) firstSet (asked 3 3 9) ≡ accepted 1 1
 unfolding gather gatherBits someFrom
@@ -73,6 +86,12 @@ ask-marked p = p .says (omega arith, omega arith) ∙ marked-0
 pub ask-unmarked : {a : Answer} → PanelAsked 1 1 a → a ≡ accepted 0 2
 ask-unmarked p = p .says (omega arith, omega arith) ∙ unmarked-3
 
+pub nearest-rough : {a : Answer} → PanelSearched 1 1 1 a → a ≡ searched (values true 60 50 1 0 false)
+nearest-rough p = p .says (omega arith, omega arith) (omega arith) ∙ ap searched rough-search
+
+pub nearest-whole : {a : Answer} → PanelSearched 1 1 9 a → a ≡ searched (values true 1 1 2 1 true)
+nearest-whole p = p .says (omega arith, omega arith) (omega arith) ∙ ap searched whole-search
+
 pub count-window : {a : Answer} → PanelCounted (windowGiven 4 4 7 7) a → a ≡ accepted 1 1
 count-window p = p .says (record { x-ordered = omega arith; y-ordered = omega arith }) ∙ upper-right
 
@@ -93,6 +112,11 @@ module _ {words : List ℕ} (h : HoldsFirst words) {a : Answer} where
     says = λ on. subst
         (λ (s : Sizes). HasPixel (panelOf s) x y → a ≡ accepted (yesNo (member firstSet (codeOf x y))) (openedByPixel (codeOf x y) (tree (panelOf s) (member firstSet))))
         (h .sizes-are) (ask-answers (h .holds) m) on;
+  }
+
+  pub searched-panel : {x y budget : ℕ} → NearestMeets words x y budget a → PanelSearched x y budget a
+  searched-panel {x} {y} {budget} m = record {
+    says = λ on some. subst (λ (s : Sizes). HasPixel (panelOf s) x y → a ≡ searched (nearestOn (panelOf s) firstSet (codeOf x y) budget)) (h .sizes-are) (λ on. nearest-answers (h .holds) m on some) on;
   }
 
   pub counted-panel : {x0 y0 x1 y1 : ℕ} → CountMeets words x0 y0 x1 y1 a → PanelCounted (windowGiven x0 y0 x1 y1) a

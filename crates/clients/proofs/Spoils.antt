@@ -14,12 +14,12 @@ use Rattle.measures.specs.Sizes.{panelOf, sizesOf, storeWords, UsableStore}
 use Rattle.measures.proofs.Usable.{sizes-kept, usable-kept}
 use Rattle.promises.specs.Effect.{HasPixelOn, partIn, passed, stopped}
 use Rattle.promises.specs.Answer.{Answer, accepted, refused}
-use Rattle.promises.specs.Calls.{asked, MakeMeets, MarkMeets, ClearMeets, AskMeets, windowGiven, CountMeets, ListMeets, SaveMeets, CheckMeets}
+use Rattle.promises.specs.Calls.{asked, MakeMeets, MarkMeets, ClearMeets, AskMeets, NearestMeets, windowGiven, CountMeets, ListMeets, SaveMeets, CheckMeets}
 use Rattle.promises.proofs.Answers.{refusal-of, first-of}
 use Rattle.promises.proofs.Ladder.{number-is}
 use Rattle.promises.proofs.Exactly.{mark-refusals, clear-refusals, count-refusals, list-refusals, check-answers}
 use Rattle.promises.proofs.AnyWords.{mark-leaves, clear-leaves, list-leaves}
-use Rattle.promises.proofs.OnSound.{ask-answers, mark-spoiled, clear-spoiled, ask-spoiled, count-spoiled, list-spoiled, save-spoiled}
+use Rattle.promises.proofs.OnSound.{ask-answers, mark-spoiled, clear-spoiled, ask-spoiled, nearest-spoiled, count-spoiled, list-spoiled, save-spoiled}
 use Rattle.clients.specs.Known.{Overwritten, SpoiltOf9, DamagedThenUnusable, NothingListed, OffEveryPanel}
 use Rattle.clients.proofs.Marks.{made-9}
 use Rattle.store.specs.Sound.{IsSound}
@@ -64,6 +64,9 @@ module _ {words : List ℕ} (s : SpoiltOf9 words) where
   module _ {a : Answer} where
     pub asked-spoilt : AskMeets words 1 2 a → a ≡ refused 13
     asked-spoilt m = ask-spoiled (s .usable) (s .spoilt) (pixel-on (omega arith, omega arith)) m
+
+    pub searched-spoilt : NearestMeets words 1 2 1 a → a ≡ refused 13
+    searched-spoilt m = nearest-spoiled (s .usable) (s .spoilt) (pixel-on (omega arith, omega arith)) (omega arith) m
 
     pub counted-spoilt : CountMeets words 0 0 7 7 a → a ≡ refused 13
     counted-spoilt m = count-spoiled (s .usable) (s .spoilt) whole-panel m

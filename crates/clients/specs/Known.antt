@@ -2,6 +2,7 @@
 -- that something else overwrote, last of any words.
 use Prim.Native.Nat.{ℕ, _≤_, _<_}
 use mathlib.Core.Path.{_≡_}
+use mathlib.Core.Bool.{Bool}
 use mathlib.Core.List.{List, [], _∷_, _++_}
 use lib.ListN.{length, getD, take, drop}
 use Rattle.morton.specs.Code.{codeOf}
@@ -9,12 +10,16 @@ use Rattle.pktree.specs.Panel.{HasPixel}
 use Rattle.pktree.specs.PixelSet.{member}
 use Rattle.pktree.specs.Tree.{tree}
 use Rattle.pktree.specs.Window.{Window, Ordered, partOn, found, openedByPixel, openedByWindow}
+use Rattle.searching.specs.Nearest.{Nearest}
+use Rattle.searching.specs.NearestPromises.{nearestOn}
 use Rattle.measures.specs.declared.sizes.Sizes.{Sizes}
 use Rattle.measures.specs.Sizes.{panelOf, sizesOf, UsableStore}
 use Rattle.store.specs.Sound.{Holds}
-use Rattle.promises.specs.Answer.{Answer, accepted, yesNo}
+use Rattle.promises.specs.Answer.{Answer, accepted, yesNo, searched}
+use Rattle.promises.specs.Effect.{HasPixelOn}
 use Rattle.promises.specs.Walk.{Spoiled}
 use Rattle.promises.specs.Calls.{asked, imageOf}
+use Rattle.promises.proofs.Nearest.{NearestOfAll}
 use mathlib.Core.Logic.{_⊎_}
 
 abbrev pub firstSet : List ℕ
@@ -43,6 +48,15 @@ firstImage =
 pub record PanelAsked (x y : ℕ) (a : Answer) : Type 0 where
   pub says : HasPixel (panelOf (asked 3 3 9)) x y
       → a ≡ accepted (yesNo (member firstSet (codeOf x y))) (openedByPixel (codeOf x y) (tree (panelOf (asked 3 3 9)) (member firstSet)))
+
+-- 02's six values
+abbrev pub values : Bool → ℕ → ℕ → ℕ → ℕ → Bool → Nearest
+values isFound code distance opened limit complete =
+    record { isFound = isFound; code = code; distance = distance; opened = opened; limit = limit; complete = complete }
+
+-- nearest: the values of the search
+pub record PanelSearched (x y budget : ℕ) (a : Answer) : Type 0 where
+  pub says : HasPixel (panelOf (asked 3 3 9)) x y → 1 ≤ budget → a ≡ searched (nearestOn (panelOf (asked 3 3 9)) firstSet (codeOf x y) budget)
 
 -- what the window's part on a panel of these sizes has of a set, and how many blocks of the set's tree share a pixel with it
 abbrev pub partFound : Window → List ℕ → Sizes → List ℕ
@@ -107,3 +121,7 @@ pub record FrontSaved (words before after : List ℕ) (n r : ℕ) : Type 0 where
 pub record SavedWhole (words before after : List ℕ) (r : ℕ) : Type 0 where
   pub saved : (set : List ℕ) → Holds words set → length (imageOf words set) ≤ length before
       → (r ≡ length (imageOf words set)) × (after ≡ imageOf words set ++ drop (length (imageOf words set)) before)
+
+-- 02, P5: the nearest of all, at the limit; or nothing is marked
+pub record WholeSearch (words : List ℕ) (x y : ℕ) (a : Answer) : Type 0 where
+  pub says : (set : List ℕ) → Holds words set → HasPixelOn words x y → NearestOfAll (codeOf x y) set a ⊎ ((a .first ≡ 0) × (set ≡ []))

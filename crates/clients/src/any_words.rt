@@ -1,5 +1,5 @@
 // One call each, on any words: what its caller knows without having looked at them.
-ghost use Prim.Native.Nat.{_≤_};
+ghost use Prim.Native.Nat.{min, _≤_};
 ghost use mathlib.Core.Path.{_≡_};
 ghost use lib.ListN.{length};
 ghost use mathlib.Core.Logic.{_↔_};
@@ -7,16 +7,17 @@ ghost use Rattle.measures.specs.Sizes.{sizesOf, UsableStore};
 ghost use Rattle.image.specs.Held.{mostBytes};
 ghost use Rattle.promises.specs.Effect.{effect};
 ghost use Rattle.promises.specs.Calls.{asked, windowGiven, slotsIn};
-ghost use Rattle.promises.proofs.Exactly.{MakeRefusals, PixelRefusals, WindowRefusals, LoadRefusals, FillRefusals, CheckAnswers};
-ghost use Rattle.promises.proofs.AnyWords.{Leaves, Bounded, OutputLeft};
-ghost use Rattle.answers.specs.Answer.{answer, askAnswer, countAnswer, listAnswer, saveAnswer, checkAnswer};
-ghost use Rattle.clients.specs.Known.{OffEveryPanel, BytesNeeded, FrontSaved, SavedWhole};
+ghost use Rattle.promises.proofs.Exactly.{MakeRefusals, PixelRefusals, WindowRefusals, LoadRefusals, FillRefusals, NearestRefusals, CheckAnswers};
+ghost use Rattle.promises.proofs.AnyWords.{Leaves, Bounded, SearchBounded, OutputLeft};
+ghost use Rattle.answers.specs.Answer.{answer, askAnswer, searchAnswer, countAnswer, listAnswer, saveAnswer, checkAnswer};
+ghost use Rattle.clients.specs.Known.{OffEveryPanel, BytesNeeded, FrontSaved, SavedWhole, WholeSearch};
 use answers::Asking;
 use answers::Checking;
 use answers::Counting;
 use answers::Listing;
 use answers::Outcome;
 use answers::Saving;
+use answers::Searching;
 
 pub fn make(store: &mut [u32], m: u32, k: u32, most: u32) -> Outcome
     ensures { λ r. ⌜ MakeRefusals (now (store .entry)) m k most (answer r) × Leaves (asked m k most) (effect (answer r) (now (store .entry)) (now (store .exit))) ⌝ }
@@ -52,6 +53,19 @@ pub fn ask(store: &[u32], x: u32, y: u32) -> Asking
     ensures { λ r. ⌜ PixelRefusals (now (store .entry)) x y (askAnswer r) × Bounded 1 (sizesOf (now (store .entry)) .order) (askAnswer r) ⌝ }
 {
     register::ask(store, x, y)
+}
+
+pub fn nearest(store: &[u32], x: u32, y: u32, budget: u32) -> Searching
+    ensures { λ r. ⌜ NearestRefusals (now (store .entry)) x y budget (searchAnswer r) × SearchBounded (min budget (slotsIn (now (store .entry)))) (searchAnswer r) ⌝ }
+{
+    register::nearest(store, x, y, budget)
+}
+
+// 02, P5: a budget that no register can spend: the nearest of all marked pixels, or none is marked.
+pub fn nearest_of_all(store: &[u32], x: u32, y: u32) -> Searching
+    ensures { λ r. ⌜ WholeSearch (now (store .entry)) x y (searchAnswer r) ⌝ }
+{
+    register::nearest(store, x, y, 0xFFFFFFFF)
 }
 
 pub fn count(store: &[u32], x0: u32, y0: u32, x1: u32, y1: u32) -> Counting

@@ -1,14 +1,16 @@
 ghost use Prim.Native.Nat.{_≤_};
 ghost use mathlib.Core.Path.{_≡_};
 ghost use lib.ListN.{length};
-ghost use Rattle.promises.specs.Answer.{accepted};
+ghost use mathlib.Core.Bool.{true, false};
+ghost use Rattle.promises.specs.Answer.{accepted, searched};
 ghost use Rattle.promises.specs.Calls.{windowGiven};
-ghost use Rattle.answers.specs.Answer.{askAnswer, countAnswer, listAnswer, saveAnswer};
-ghost use Rattle.clients.specs.Known.{firstSet, HoldsOf9, PanelAsked, PanelCounted, PanelListed, PanelSaved, ClearedListed};
+ghost use Rattle.answers.specs.Answer.{askAnswer, searchAnswer, countAnswer, listAnswer, saveAnswer};
+ghost use Rattle.clients.specs.Known.{firstSet, HoldsOf9, PanelAsked, PanelSearched, values, PanelCounted, PanelListed, PanelSaved, ClearedListed};
 use answers::Asking;
 use answers::Counting;
 use answers::Listing;
 use answers::Saving;
+use answers::Searching;
 use answers::refusal_of;
 
 // 01's first sample panel, marked pixel by pixel.
@@ -46,6 +48,31 @@ pub fn ask_unmarked() -> Asking
 {
     let mut store = [0u32; 148];
     ask_panel(&mut store, 1, 1)
+}
+
+// nearest on it.
+fn search_panel(store: &mut [u32], x: u32, y: u32, budget: u32) -> Searching
+    requires { ⌜ 148 ≤ length (now store) ⌝ }
+    ensures { λ r. ⌜ PanelSearched x y budget (searchAnswer r) ⌝ }
+{
+    first_panel(store);
+    register::nearest(store, x, y, budget)
+}
+
+// 02, P5: from (1, 1) the root alone shows code 60, at squared distance 50; the block 1/0 around the place is left, so nothing is excluded.
+pub fn nearest_rough() -> Searching
+    ensures { λ r. ⌜ searchAnswer r ≡ searched (values true 60 50 1 0 false) ⌝ }
+{
+    let mut store = [0u32; 148];
+    search_panel(&mut store, 1, 1, 1)
+}
+
+// Then codes 1 and 2 are as near, and the lower wins.
+pub fn nearest_whole() -> Searching
+    ensures { λ r. ⌜ searchAnswer r ≡ searched (values true 1 1 2 1 true) ⌝ }
+{
+    let mut store = [0u32; 148];
+    search_panel(&mut store, 1, 1, 9)
 }
 
 // count on it.

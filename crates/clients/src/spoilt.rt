@@ -3,13 +3,14 @@ ghost use Prim.Native.Nat.{_≤_};
 ghost use mathlib.Core.Path.{_≡_};
 ghost use lib.ListN.{length};
 ghost use Rattle.promises.specs.Answer.{accepted, refused};
-ghost use Rattle.answers.specs.Answer.{askAnswer, countAnswer, listAnswer, saveAnswer, checkAnswer};
+ghost use Rattle.answers.specs.Answer.{askAnswer, searchAnswer, countAnswer, listAnswer, saveAnswer, checkAnswer};
 ghost use Rattle.clients.specs.Known.{HoldsFirst, firstImage, PanelListed, Overwritten, SpoiltOf9, DamagedThenUnusable, NothingListed};
 use answers::Asking;
 use answers::Checking;
 use answers::Counting;
 use answers::Listing;
 use answers::Saving;
+use answers::Searching;
 use answers::refusal_of;
 
 // Something else writes to the store.
@@ -79,6 +80,21 @@ fn ask_after(store: &mut [u32]) -> Asking
 {
     make_and_spoil(store);
     register::ask(store, 1, 2)
+}
+
+fn search_after(store: &mut [u32]) -> Searching
+    requires { ⌜ 148 ≤ length (now store) ⌝ }
+    ensures { λ r. ⌜ searchAnswer r ≡ refused 13 ⌝ }
+{
+    make_and_spoil(store);
+    register::nearest(store, 1, 2, 1)
+}
+
+pub fn nearest_spoilt() -> Searching
+    ensures { λ r. ⌜ searchAnswer r ≡ refused 13 ⌝ }
+{
+    let mut store = [0u32; 148];
+    search_after(&mut store)
 }
 
 pub fn ask_spoilt() -> Asking

@@ -6,13 +6,14 @@ use lib.ListN.{take, drop}
 use denote.Ref.{RefT}
 use Rattle.answers.specs.declared.Outcome.{Outcome}
 use Rattle.answers.specs.declared.Asking.{Asking}
+use Rattle.answers.specs.declared.Searching.{Searching}
 use Rattle.answers.specs.declared.Counting.{Counting}
 use Rattle.answers.specs.declared.Listing.{Listing}
 use Rattle.answers.specs.declared.Saving.{Saving}
 use Rattle.answers.specs.declared.Checking.{Checking}
-use Rattle.answers.specs.Answer.{answer, askAnswer, countAnswer, listAnswer, saveAnswer, checkAnswer}
-use Rattle.promises.specs.Calls.{MarkMeets, ClearMeets, AskMeets, CountMeets, ListMeets, SaveMeets, LoadMeets, FillMeets, CheckMeets}
-use Rattle.promises.specs.Survivors.{Call, mark, clear, ask, count, list, save, load, fill, check}
+use Rattle.answers.specs.Answer.{answer, askAnswer, searchAnswer, countAnswer, listAnswer, saveAnswer, checkAnswer}
+use Rattle.promises.specs.Calls.{MarkMeets, ClearMeets, AskMeets, NearestMeets, CountMeets, ListMeets, SaveMeets, LoadMeets, FillMeets, CheckMeets}
+use Rattle.promises.specs.Survivors.{Call, mark, clear, ask, nearest, count, list, save, load, fill, check}
 use Rattle.history.specs.Run as steps
 use Rattle.history.specs.Run.{Step, SaveRun, Run, done, then}
 
@@ -29,6 +30,9 @@ module _ (before after : List ℕ) (x y : ℕ) where
 
 pub ask-step : (words : List ℕ) (x y : ℕ) (r : Asking) → AskMeets words x y (askAnswer r) → Step (ask x y) words words
 ask-step words x y r m = steps.by-ask ([], tt) (lent words) x y r m
+
+pub nearest-step : (words : List ℕ) (x y budget : ℕ) (r : Searching) → NearestMeets words x y budget (searchAnswer r) → Step (nearest x y budget) words words
+nearest-step words x y budget r m = steps.by-nearest ([], tt) (lent words) x y budget r m
 
 module _ (words : List ℕ) (x0 y0 x1 y1 : ℕ) where
   pub count-step : (r : Counting) → CountMeets words x0 y0 x1 y1 (countAnswer r) → Step (count x0 y0 x1 y1) words words

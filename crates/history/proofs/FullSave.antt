@@ -48,7 +48,7 @@ module _ {words set : List ℕ} (holds : Holds words set) where
       let long : length (bytes ++ rest) ≡ length output = omega (arith, length-append bytes rest, length-drop (length bytes) output) in
       passed (holds .sound .usable)
       (record {
-        ends = inl (inl (record { accepts = record { accepted = refl; first-to = bounded; second-to = omega arith }; room = room; rest = drop-at bytes rest (length bytes) refl; long = long }));
+        ends = inl (inl (record { accepts = record { accepted = refl; first-to = bounded; second-to = omega arith; no-further = refl }; room = room; rest = drop-at bytes rest (length bytes) refl; long = long }));
         spoiled = λ s. absurd (not-spoiled s);
         sound = λ other h. rw (one-set h) (passed room (record { is = refl; wrote = refl }));
       })

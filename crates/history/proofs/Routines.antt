@@ -26,6 +26,10 @@ use Rattle.register.proofs.ask.Reads as ask-reads
 use Rattle.register.proofs.ask.Kinds as ask-kinds
 use Rattle.register.proofs.ask.Symbol as ask-symbol
 use Rattle.register.proofs.ask.Met as ask-theorem
+use Rattle.register.proofs.nearest.Reads as nearest-reads
+use Rattle.register.proofs.nearest.Kinds as nearest-kinds
+use Rattle.register.proofs.nearest.Symbol as nearest-symbol
+use Rattle.register.proofs.nearest.Met as nearest-theorem
 use Rattle.register.proofs.count.Reads as count-reads
 use Rattle.register.proofs.count.Kinds as count-kinds
 use Rattle.register.proofs.count.Symbol as count-symbol
@@ -67,6 +71,9 @@ clear-gives w γ name e = clear-reads.known w γ name clear-symbol.routine e (cl
 
 pub ask-gives : Gives 1 ask-kinds.ps ask-kinds.r ask-reads.Asked ask-reads.Learnt ask-symbol.routine
 ask-gives w γ name e = ask-reads.known w γ name ask-symbol.routine e (ask-theorem.met (w .𝓤) (w .H) (w .𝓜) (w .𝓖) (w .𝓡))
+
+pub nearest-gives : Gives 1 nearest-kinds.ps nearest-kinds.r nearest-reads.Asked nearest-reads.Learnt nearest-symbol.routine
+nearest-gives w γ name e = nearest-reads.known w γ name nearest-symbol.routine e (nearest-theorem.met (w .𝓤) (w .H) (w .𝓜) (w .𝓖) (w .𝓡))
 
 pub count-gives : Gives 1 count-kinds.ps count-kinds.r count-reads.Asked count-reads.Learnt count-symbol.routine
 count-gives w γ name e = count-reads.known w γ name count-symbol.routine e (count-theorem.met (w .𝓤) (w .H) (w .𝓜) (w .𝓖) (w .𝓡))

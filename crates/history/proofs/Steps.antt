@@ -8,7 +8,7 @@ use Rattle.measures.specs.Sizes.{sizesOf}
 use Rattle.answers.specs.Answer.{answer}
 use Rattle.promises.specs.Survivors.{Call, mark, clear, load, fill, next}
 use Rattle.promises.proofs.Keeping.{InStep, mark-next, clear-next, load-next, fill-next}
-use Rattle.history.specs.Run.{Step, by-mark, by-clear, by-ask, by-count, by-list, by-save, by-load, by-fill, by-check}
+use Rattle.history.specs.Run.{Step, by-mark, by-clear, by-ask, by-nearest, by-count, by-list, by-save, by-load, by-fill, by-check}
 
 -- of the sizes that the store says
 abbrev at-own-sizes : {sizes : Sizes} {set words : List ℕ} → InStep sizes set words → InStep (sizesOf words) set words
@@ -23,6 +23,7 @@ pub step-keeps : (sizes : Sizes) (set : List ℕ) {call : Call} {before after : 
 step-keeps sizes set (by-mark κs s x y r after m) h = to-sizes (mark x y) h (mark-next (now s) after x y (answer r) set (at-own-sizes h) m)
 step-keeps sizes set (by-clear κs s x y r after m) h = to-sizes (clear x y) h (clear-next (now s) after x y (answer r) set (at-own-sizes h) m)
 step-keeps sizes set (by-ask κs s x y r m) h = h
+step-keeps sizes set (by-nearest κs s x y budget r m) h = h
 step-keeps sizes set (by-count κs s x0 y0 x1 y1 r m) h = h
 step-keeps sizes set (by-list κs s o x0 y0 x1 y1 r written m) h = h
 step-keeps sizes set (by-save words output r written m) h = h

@@ -8,6 +8,7 @@ use denote.Ref.{RefT, now, at-last}
 use Rattle.measures.specs.declared.sizes.Sizes.{Sizes}
 use Rattle.answers.specs.declared.Outcome.{Outcome}
 use Rattle.answers.specs.declared.Asking.{Asking}
+use Rattle.answers.specs.declared.Searching.{Searching}
 use Rattle.answers.specs.declared.Counting.{Counting}
 use Rattle.answers.specs.declared.Listing.{Listing}
 use Rattle.answers.specs.declared.Saving.{Saving}
@@ -17,13 +18,14 @@ use Rattle.register.proofs.make.Reads as make-reads
 use Rattle.register.proofs.mark.Reads as mark-reads
 use Rattle.register.proofs.clear.Reads as clear-reads
 use Rattle.register.proofs.ask.Reads as ask-reads
+use Rattle.register.proofs.nearest.Reads as nearest-reads
 use Rattle.register.proofs.count.Reads as count-reads
 use Rattle.register.proofs.list.Reads as list-reads
 use Rattle.register.proofs.save.Reads as save-reads
 use Rattle.register.proofs.load.Reads as load-reads
 use Rattle.register.proofs.fill.Reads as fill-reads
 use Rattle.register.proofs.check.Reads as check-reads
-use Rattle.promises.specs.Survivors.{Call, mark, clear, ask, count, list, save, load, fill, check}
+use Rattle.promises.specs.Survivors.{Call, mark, clear, ask, nearest, count, list, save, load, fill, check}
 
 -- a save from these words into this output
 pub data SaveRun (words output : List ℕ) (r : Saving) (written : List ℕ) : Type 0 where
@@ -38,6 +40,8 @@ pub data Step : Call → List ℕ → List ℕ → Type 0 where
       → clear-reads.Learnt κs (s, (x, (y, tt))) r (at-last s after, (x, (y, tt))) → Step (clear x y) (now s) after
   by-ask : (κs : Lfts 1) (s : RefT (List ℕ)) (x y : ℕ) (r : Asking)
       → ask-reads.Learnt κs (s, (x, (y, tt))) r (s, (x, (y, tt))) → Step (ask x y) (now s) (now s)
+  by-nearest : (κs : Lfts 1) (s : RefT (List ℕ)) (x y budget : ℕ) (r : Searching)
+      → nearest-reads.Learnt κs (s, (x, (y, (budget, tt)))) r (s, (x, (y, (budget, tt)))) → Step (nearest x y budget) (now s) (now s)
   by-count : (κs : Lfts 1) (s : RefT (List ℕ)) (x0 y0 x1 y1 : ℕ) (r : Counting)
       → count-reads.Learnt κs (s, (x0, (y0, (x1, (y1, tt))))) r (s, (x0, (y0, (x1, (y1, tt))))) → Step (count x0 y0 x1 y1) (now s) (now s)
   by-list : (κs : Lfts 2) (s o : RefT (List ℕ)) (x0 y0 x1 y1 : ℕ) (r : Listing) (written : List ℕ)

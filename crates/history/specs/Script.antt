@@ -5,7 +5,7 @@ use mathlib.Core.List.{List, [], _∷_, _++_}
 use lib.Dec.{eqb}
 use lib.ListN.{length, getD, take, drop, replicate}
 use Rattle.history.specs.declared.Encoded.{Encoded}
-use Rattle.promises.specs.Survivors.{Call, mark, clear, ask, count, list, save, load, fill, check}
+use Rattle.promises.specs.Survivors.{Call, mark, clear, ask, count, list, save, load, fill, nearest, check}
 
 -- the outputs that list and save get: so many zeros
 abbrev pub zeros : ℕ → ℕ → List ℕ
@@ -20,7 +20,8 @@ callOf images codes call =
     (cond (eqb (call .number) 4) (list (call .a) (call .b) (call .c) (call .d) (zeros (call .e) 16))
     (cond (eqb (call .number) 5) (save (zeros (call .e) 64))
     (cond (eqb (call .number) 6) (load (take (call .b) (drop (call .a) images)))
-    (cond (eqb (call .number) 7) (fill (take (call .b) (drop (call .a) codes))) check)))))))
+    (cond (eqb (call .number) 7) (fill (take (call .b) (drop (call .a) codes)))
+    (cond (eqb (call .number) 8) (nearest (call .a) (call .b) (call .c)) check))))))))
 
 abbrev pub encodedAt : List ℕ → ℕ → Encoded
 encodedAt script i = record {

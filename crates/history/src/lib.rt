@@ -100,6 +100,10 @@ fn step(store: &mut [u32], images: &[u8], codes: &[u32], call: Encoded)
         fill_step(store, codes, call.a, call.b);
         return;
     }
+    if call.number == 8 {
+        register::nearest(store, call.a, call.b, call.c);
+        return;
+    }
     register::check(store);
 }
 

@@ -137,7 +137,7 @@ module _ (words : List ℕ) {sizes : Sizes} (corners : Corners) (given : (Usable
       go : calls.CountsIn words (windowBetween corners) (effect (accepted x opened) words words) → calls.ListsIn words (windowBetween corners) (effect (accepted n opened) before after)
       go c = record {
         ends = inl (inl (record {
-          accepts = record { accepted = refl; first-to = found-few count; second-to = ⊎-elim (λ a. a .second-to) (λ d. absurd (omega (arith, refusal-of (d .0)))) (c .ends) };
+          accepts = record { accepted = refl; first-to = found-few count; second-to = ⊎-elim (λ a. a .second-to) (λ d. absurd (omega (arith, refusal-of (d .0)))) (c .ends); no-further = refl };
           room = omega arith;
           rest = rest-same;
           long = same-length;

@@ -4,14 +4,15 @@ ghost use mathlib.Core.Path.{_≡_};
 ghost use Rattle.promises.specs.Answer.{yesNo};
 ghost use Rattle.answers.specs.Answer.{numberOf};
 ghost use Rattle.promises.specs.Answer as answers;
-ghost use Rattle.promises.specs.Calls.{MakeMeets, MarkMeets, ClearMeets, LoadMeets, FillMeets, AskMeets, CountMeets, ListMeets, SaveMeets, CheckMeets};
-ghost use Rattle.pkreg.specs.Numbers.{numbers, WordsNeeded};
+ghost use Rattle.promises.specs.Calls.{MakeMeets, MarkMeets, ClearMeets, LoadMeets, FillMeets, AskMeets, NearestMeets, CountMeets, ListMeets, SaveMeets, CheckMeets};
+ghost use Rattle.pkreg.specs.Numbers.{numbers, nearestNumbers, WordsNeeded};
 use answers::Asking;
 use answers::Checking;
 use answers::Counting;
 use answers::Listing;
 use answers::Refusal;
 use answers::Saving;
+use answers::Searching;
 use answers::number_of;
 use answers::refusal_of;
 use measures::sizes::Sizes;
@@ -118,6 +119,45 @@ pub extern "C" fn pk_ask(store: &[u32], x: u32, y: u32) -> PkAnswer
     match register::ask(store, x, y) {
         Asking::Answered { marked, opened } => accepted(yes_no(marked), opened as u32),
         Asking::Refused(refusal) => refused(refusal),
+    }
+}
+
+// 02, P5: the values of nearest, all zero beside a refusal.
+#[repr(C)]
+pub struct PkNearest {
+    pub distance: u64,
+    pub limit: u64,
+    pub refusal: u32,
+    pub found: u32,
+    pub code: u32,
+    pub opened: u32,
+    pub complete: u32,
+}
+
+// found and complete are 1 for yes and 0 for no.
+#[no_mangle]
+pub extern "C" fn pk_nearest(store: &[u32], x: u32, y: u32, budget: u32) -> PkNearest
+    ensures { λ r. ⌜ NearestMeets (now (store .entry)) x y budget (nearestNumbers r) ⌝ }
+{
+    match register::nearest(store, x, y, budget) {
+        Searching::Ended(nearest) => PkNearest {
+            distance: nearest.distance,
+            limit: nearest.limit,
+            refusal: 0,
+            found: yes_no(nearest.found),
+            code: nearest.code,
+            opened: nearest.opened,
+            complete: yes_no(nearest.complete),
+        },
+        Searching::Refused(refusal) => PkNearest {
+            distance: 0,
+            limit: 0,
+            refusal: number_of(refusal),
+            found: 0,
+            code: 0,
+            opened: 0,
+            complete: 0,
+        },
     }
 }
 

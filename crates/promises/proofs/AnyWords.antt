@@ -1,5 +1,5 @@
 -- What holds of every call whatever the words are: zeros beside a refusal, bounds of what is answered, and what is left as it was.
-use Prim.Native.Nat.{ℕ, _≤_, _<_}
+use Prim.Native.Nat.{ℕ, min, _≤_, _<_}
 use native.Mathlib.Omega.{arith}
 use mathlib.Core.Path.{_≡_, ap, sym, _∙_}
 use mathlib.Core.Logic.{_⊎_, inl, inr, ⊎-elim}
@@ -8,13 +8,13 @@ use lib.ListN.{length, getD, drop}
 use Rattle.measures.specs.declared.sizes.Sizes.{Sizes}
 use Rattle.measures.specs.Sizes.{sizesOf, storeWords}
 use Rattle.image.specs.Held.{mostBytes}
-use Rattle.promises.specs.Answer.{Answer, refused, accepted}
+use Rattle.promises.specs.Answer.{none, Answer, refused, accepted}
 use Rattle.promises.specs.Effect.{Effect, effect, Returns, passed, stopped}
-use Rattle.promises.specs.Walk.{Accepts}
+use Rattle.promises.specs.Walk.{Accepts, Searches}
 use Rattle.promises.specs.Change.{Done, Disabled}
 use Rattle.promises.specs.Output.{SameLength, WrittenOrShort}
-use Rattle.promises.specs.Calls.{asked, slotsIn, MakeMeets, MarkMeets, ClearMeets, LoadMeets, FillMeets, AskMeets, CountMeets, ListMeets, SaveMeets}
-use Rattle.promises.proofs.Answers.{refusal-of, first-of, second-of, Zeros, zeros-beside}
+use Rattle.promises.specs.Calls.{asked, slotsIn, MakeMeets, MarkMeets, ClearMeets, LoadMeets, FillMeets, AskMeets, NearestMeets, CountMeets, ListMeets, SaveMeets}
+use Rattle.promises.proofs.Answers.{refusal-of, first-of, second-of, further-of, Zeros, zeros-beside}
 use Rattle.promises.proofs.Ladder.{number-is, CheckRefused, refused-or, pixel-ends, window-ends}
 
 -- what make, mark, clear, load and fill leave of the store, and answer
@@ -40,7 +40,7 @@ module _ {sizes : Sizes} {e : Effect} where
 
   done-leaves : Done sizes e → Leaves sizes e
   done-leaves d = record {
-    values = (first-of (d .done), second-of (d .done));
+    values = (first-of (d .done), second-of (d .done), further-of (d .done));
     damaged = λ z. absurd (omega (arith, z, refusal-of (d .done)));
     unchanged = λ z o. absurd (z (refusal-of (d .done)));
     past = d .within .past;
@@ -86,24 +86,44 @@ module _ {before after : List ℕ} {a : Answer} where
   fill-leaves codes (passed u (passed on (passed room (stopped f r)))) = returned-leaves (omega arith) r
   fill-leaves codes (passed u (passed on (passed room (passed up b)))) = done-leaves (b .done)
 
--- what ask and count answer: values of at most so much, zeros beside a refusal
+-- what ask and count answer: two values of at most so much, zeros beside a refusal
 pub record Bounded (first second : ℕ) (a : Answer) : Type 0 where
   pub zeros : (a .refusal ≡ 0 → ⊥) → Zeros a
   pub first-to : a .first ≤ first
   pub second-to : a .second ≤ second
+  pub no-further : a .further ≡ none
 
 module _ {first second : ℕ} {a : Answer} where
   refused-bounded : {n : ℕ} → a ≡ refused n → Bounded first second a
-  refused-bounded {n} i = record { zeros = λ z. zeros-beside n i; first-to = omega (arith, first-of i); second-to = omega (arith, second-of i) }
+  refused-bounded {n} i = record { zeros = λ z. zeros-beside n i; first-to = omega (arith, first-of i); second-to = omega (arith, second-of i); no-further = further-of i }
 
   none-bounded : a ≡ accepted 0 0 → Bounded first second a
-  none-bounded i = record { zeros = λ z. absurd (z (refusal-of i)); first-to = omega (arith, first-of i); second-to = omega (arith, second-of i) }
+  none-bounded i = record { zeros = λ z. absurd (z (refusal-of i)); first-to = omega (arith, first-of i); second-to = omega (arith, second-of i); no-further = further-of i }
 
   walk-bounded : {before after : List ℕ} → Accepts first second (effect a before after) ⊎ ((a ≡ refused 13) × (after ≡ before)) → Bounded first second a
-  walk-bounded ends = ⊎-elim (λ b. record { zeros = λ z. absurd (z (b .accepted)); first-to = b .first-to; second-to = b .second-to }) (λ d. refused-bounded (d .0)) ends
+  walk-bounded ends = ⊎-elim (λ b. record { zeros = λ z. absurd (z (b .accepted)); first-to = b .first-to; second-to = b .second-to; no-further = b .no-further }) (λ d. refused-bounded (d .0)) ends
 
 pub ask-bounded : {words : List ℕ} {x y : ℕ} {a : Answer} → AskMeets words x y a → Bounded 1 (sizesOf words .order) a
 ask-bounded m = ⊎-elim (λ c. refused-bounded (c .returns .is)) (λ w. walk-bounded (w .ends)) (pixel-ends m)
+
+-- 02, P5: what nearest answers: never more blocks opened than the budget, nor than S; zeros beside a refusal
+pub record SearchBounded (opened : ℕ) (a : Answer) : Type 0 where
+  pub zeros : (a .refusal ≡ 0 → ⊥) → Zeros a
+  pub found-to : a .first ≤ 1
+  pub opened-to : a .second ≤ opened
+
+module _ {opened : ℕ} {a : Answer} where
+  refused-search : {n : ℕ} → a ≡ refused n → SearchBounded opened a
+  refused-search {n} i = record { zeros = λ z. zeros-beside n i; found-to = omega (arith, first-of i); opened-to = omega (arith, second-of i) }
+
+  walk-search : {before after : List ℕ} → Searches opened (effect a before after) ⊎ ((a ≡ refused 13) × (after ≡ before)) → SearchBounded opened a
+  walk-search ends = ⊎-elim (λ s. record { zeros = λ z. absurd (z (s .accepted)); found-to = s .found-to; opened-to = s .opened-to }) (λ d. refused-search (d .0)) ends
+
+pub nearest-bounded : {words : List ℕ} {x y budget : ℕ} {a : Answer} → NearestMeets words x y budget a → SearchBounded (min budget (slotsIn words)) a
+nearest-bounded m =
+    ⊎-elim (λ c. refused-search (c .returns .is))
+    (λ b. ⊎-elim (λ c. refused-search (c .returns .is)) (λ w. walk-search (w .ends)) (refused-or (omega arith) (omega arith) (omega arith) b))
+    (pixel-ends m)
 
 pub count-bounded : {words : List ℕ} {x0 y0 x1 y1 : ℕ} {a : Answer} → CountMeets words x0 y0 x1 y1 a → Bounded (sizesOf words .most) (slotsIn words) a
 count-bounded m = ⊎-elim (λ c. refused-bounded (c .returns .is)) (⊎-elim (λ r. none-bounded (r .is)) (λ w. walk-bounded (w .ends))) (window-ends m)
@@ -114,6 +134,7 @@ pub record OutputLeft (first second : ℕ) (e : Effect) : Type 0 where
   pub no-second : (e .answer .refusal ≡ 0 → ⊥) → e .answer .second ≡ 0
   pub first-to : e .answer .first ≤ first
   pub second-to : e .answer .second ≤ second
+  pub no-further : e .answer .further ≡ none
   -- accepted: no more than the output holds, and nothing past it
   pub room : e .answer .refusal ≡ 0 → e .answer .first ≤ length (e .before)
   pub rest : e .answer .refusal ≡ 0 → drop (e .answer .first) (e .after) ≡ drop (e .answer .first) (e .before)
@@ -131,6 +152,7 @@ module _ {first second : ℕ} {e : Effect} where
         no-second = λ z. second-of i;
         first-to = omega (arith, first-of i);
         second-to = omega (arith, second-of i);
+        no-further = further-of i;
         room = λ z. absurd (c .not-0 (sym (refusal-of i) ∙ z));
         rest = λ z. absurd (c .not-0 (sym (refusal-of i) ∙ z));
         lacks = λ s. absurd (c .not-9 (sym (refusal-of i) ∙ s));
@@ -144,6 +166,7 @@ module _ {first second : ℕ} {e : Effect} where
     no-second = λ z. second-of (r .is);
     first-to = omega (arith, first-of (r .is));
     second-to = omega (arith, second-of (r .is));
+    no-further = further-of (r .is);
     room = λ z. omega (arith, first-of (r .is));
     rest = λ z. ap (drop (e .answer .first)) (r .same);
     lacks = λ s. absurd (omega (arith, s, number-is r));
@@ -157,6 +180,7 @@ module _ {first second : ℕ} {e : Effect} where
     no-second = λ z. absurd (z (w .accepts .accepted));
     first-to = w .accepts .first-to;
     second-to = w .accepts .second-to;
+    no-further = w .accepts .no-further;
     room = λ z. w .room;
     rest = λ z. w .rest;
     lacks = λ s. absurd (omega (arith, s, w .accepts .accepted));
@@ -168,6 +192,7 @@ module _ {first second : ℕ} {e : Effect} where
     no-second = λ z. second-of (s .returns .is);
     first-to = s .needed-to;
     second-to = omega (arith, second-of (s .returns .is));
+    no-further = further-of (s .returns .is);
     room = λ z. absurd (omega (arith, z, number-is (s .returns)));
     rest = λ z. absurd (omega (arith, z, number-is (s .returns)));
     lacks = λ z. s .lacks;
@@ -179,6 +204,7 @@ module _ {first second : ℕ} {e : Effect} where
     no-second = λ z. second-of (d .0);
     first-to = omega (arith, first-of (d .0));
     second-to = omega (arith, second-of (d .0));
+    no-further = further-of (d .0);
     room = λ z. absurd (omega (arith, z, refusal-of (d .0)));
     rest = λ z. absurd (omega (arith, z, refusal-of (d .0)));
     lacks = λ s. absurd (omega (arith, s, refusal-of (d .0)));

@@ -19,7 +19,7 @@ use Rattle.promises.specs.Answer.{Answer, accepted, refused}
 use Rattle.promises.specs.Walk.{Walks}
 use Rattle.promises.specs.Change.{Becomes}
 use Rattle.promises.specs.Output.{WrittenOrShort}
-use Rattle.promises.specs.Calls.{asked, MakeMeets, MarkMeets, ClearMeets, Loaded, LoadMeets, FillMeets, AskMeets, windowGiven, CountMeets, ListMeets, SaveMeets, CheckMeets}
+use Rattle.promises.specs.Calls.{asked, MakeMeets, MarkMeets, ClearMeets, Loaded, LoadMeets, FillMeets, AskMeets, NearestMeets, windowGiven, CountMeets, ListMeets, SaveMeets, CheckMeets}
 use Rattle.promises.proofs.Answers.{refusal-of, first-of}
 use Rattle.promises.proofs.Holding.{Holding, now-holding}
 use Rattle.promises.proofs.Ladder.{number-is, where-holds, where-fails, never, exactly, then-exactly, accepted-passed, FourChecks, four-checks}
@@ -27,21 +27,21 @@ use Rattle.store.specs.Sound.{IsSound}
 
 -- a number of the walk, of none of the checks before it
 abbrev OfWalk : ℕ → Type 0
-OfWalk n = (n ≡ 3 → ⊥) × (n ≡ 4 → ⊥) × (n ≡ 8 → ⊥)
+OfWalk n = (n ≡ 3 → ⊥) × (n ≡ 4 → ⊥) × (n ≡ 8 → ⊥) × (n ≡ 15 → ⊥)
 
 of-walk : {r : ℕ} (n : ℕ) → OfWalk n → r ≡ n → OfWalk r
 of-walk n w e = subst OfWalk (sym e) w
 
 walk-number : {words : List ℕ} {Answers Damaged : Effect → Type 0} {Right : List ℕ → Effect → Type 0} {e : Effect}
     → (Answers e → OfWalk (e .answer .refusal)) → Walks words Answers Damaged Right e → OfWalk (e .answer .refusal)
-walk-number answers w = ⊎-elim answers (λ d. of-walk 13 (omega arith, omega arith, omega arith) (refusal-of (d .0))) (w .ends)
+walk-number answers w = ⊎-elim answers (λ d. of-walk 13 (omega arith, omega arith, omega arith, omega arith) (refusal-of (d .0))) (w .ends)
 
 accepted-number : {r : ℕ} → r ≡ 0 → OfWalk r
-accepted-number z = of-walk 0 (omega arith, omega arith, omega arith) z
+accepted-number z = of-walk 0 (omega arith, omega arith, omega arith, omega arith) z
 
 output-number : {first second : ℕ} {e : Effect} → WrittenOrShort first second e → OfWalk (e .answer .refusal)
 output-number (inl w) = accepted-number (w .accepts .accepted)
-output-number (inr s) = of-walk 9 (omega arith, omega arith, omega arith) (number-is (s .returns))
+output-number (inr s) = of-walk 9 (omega arith, omega arith, omega arith, omega arith) (number-is (s .returns))
 
 -- 3 and 4 of mark, clear and ask
 pub record PixelRefusals (words : List ℕ) (x y : ℕ) (a : Answer) : Type 0 where
@@ -81,17 +81,30 @@ module _ {before after : List ℕ} {x y : ℕ} {a : Answer} where
       pixel-refusals
       (walk-number
       (⊎-elim (λ d. accepted-number (refusal-of (d .done)))
-      (⊎-elim (λ r. of-walk 5 (omega arith, omega arith, omega arith) (number-is r)) (λ r. of-walk 6 (omega arith, omega arith, omega arith) (number-is r)))))
+      (⊎-elim (λ r. of-walk 5 (omega arith, omega arith, omega arith, omega arith) (number-is r)) (λ r. of-walk 6 (omega arith, omega arith, omega arith, omega arith) (number-is r)))))
       m
 
   pub clear-refusals : ClearMeets before after x y a → PixelRefusals before x y a
   clear-refusals m =
       pixel-refusals
-      (walk-number (⊎-elim (λ d. accepted-number (refusal-of (d .done))) (λ r. of-walk 7 (omega arith, omega arith, omega arith) (number-is r))))
+      (walk-number (⊎-elim (λ d. accepted-number (refusal-of (d .done))) (λ r. of-walk 7 (omega arith, omega arith, omega arith, omega arith) (number-is r))))
       m
 
 pub ask-refusals : {words : List ℕ} {x y : ℕ} {a : Answer} → AskMeets words x y a → PixelRefusals words x y a
 ask-refusals m = pixel-refusals (walk-number (λ b. accepted-number (b .accepted))) m
+
+-- 02, P5: 3 and 4 of nearest as of ask, then 15
+pub record NearestRefusals (words : List ℕ) (x y budget : ℕ) (a : Answer) : Type 0 where
+  pub unusable : (a .refusal ≡ 3) ↔ (UsableStore words → ⊥)
+  pub off-panel : (a .refusal ≡ 4) ↔ (UsableStore words × (HasPixelOn words x y → ⊥))
+  pub no-budget : (a .refusal ≡ 15) ↔ (UsableStore words × (HasPixelOn words x y × (1 ≤ budget → ⊥)))
+
+pub nearest-refusals : {words : List ℕ} {x y budget : ℕ} {a : Answer} → NearestMeets words x y budget a → NearestRefusals words x y budget a
+nearest-refusals m = record {
+  unusable = exactly (never (omega arith) (never (omega arith) (λ w. walk-number (λ s. accepted-number (s .accepted)) w .0))) m;
+  off-panel = then-exactly (omega arith) (exactly (never (omega arith) (λ w. walk-number (λ s. accepted-number (s .accepted)) w .1))) m;
+  no-budget = then-exactly (omega arith) (then-exactly (omega arith) (exactly (λ w. walk-number (λ s. accepted-number (s .accepted)) w .3))) m;
+}
 
 module _ {words : List ℕ} {x0 y0 x1 y1 : ℕ} {a : Answer} where
   pub count-refusals : CountMeets words x0 y0 x1 y1 a → WindowRefusals words (windowGiven x0 y0 x1 y1) a

@@ -18,7 +18,7 @@ use Rattle.promises.specs.Effect.{HasPixelOn, effect, Returns, partIn, p
 use Rattle.promises.specs.Answer.{Answer, accepted, refused, yesNo}
 use Rattle.promises.specs.Walk.{Spoiled}
 use Rattle.promises.specs.Output.{WritesOrShort}
-use Rattle.promises.specs.Calls.{MarkMeets, ClearMeets, AskMeets, windowGiven, foundAndOpened, Counts, CountMeets, Lists, ListMeets, SaveMeets}
+use Rattle.promises.specs.Calls.{MarkMeets, ClearMeets, AskMeets, NearestMeets, windowGiven, foundAndOpened, Counts, CountMeets, Lists, ListMeets, SaveMeets}
 use Rattle.promises.proofs.Answers.{refusal-of, first-of, second-of}
 use Rattle.promises.proofs.Holding.{Holding, now-holding}
 use Rattle.promises.proofs.Ladder.{where-holds, where-fails}
@@ -90,7 +90,7 @@ module _ {words set : List ℕ} (holds : Holds words set) {a : Answer} where
         let r = where-fails (where-holds meets (holds .sound .usable) .sound set holds) (λ room. omega (arith, room, lacks)) in
         (refusal-of (r .is), first-of (r .is), second-of (r .is), r .same)
 
--- 13 on a spoiled store, by each of the six calls that walk
+-- 13 on a spoiled store, by each of the seven calls that walk
 module _ {words : List ℕ} (usable : UsableStore words) (spoiled : Spoiled words) {a : Answer} where
   module _ {x y : ℕ} (on : HasPixelOn words x y) where
     pub mark-spoiled : {after : List ℕ} → MarkMeets words after x y a → a ≡ refused 13
@@ -101,6 +101,9 @@ module _ {words : List ℕ} (usable : UsableStore words) (spoiled : Spoiled word
 
     pub ask-spoiled : AskMeets words x y a → a ≡ refused 13
     ask-spoiled m = where-holds (where-holds m usable) on .spoiled spoiled
+
+    pub nearest-spoiled : {budget : ℕ} → 1 ≤ budget → NearestMeets words x y budget a → a ≡ refused 13
+    nearest-spoiled some m = where-holds (where-holds (where-holds m usable) on) some .spoiled spoiled
 
   -- where the window is not wholly off the panel
   module _ {x0 y0 x1 y1 : ℕ} (some : Ordered (partIn words (windowGiven x0 y0 x1 y1))) where

@@ -1,5 +1,5 @@
--- 01 "Calls" and 02: what each of the ten calls promises. A line `P else a then rest` is a check: where P fails the call returns a and changes nothing.
-use Prim.Native.Nat.{ℕ, _≤_, _<_}
+-- 01 "Calls" and 02: what each of the eleven calls promises. A line `P else a then rest` is a check: where P fails the call returns a and changes nothing.
+use Prim.Native.Nat.{ℕ, min, _≤_, _<_}
 use mathlib.Core.Path.{_≡_}
 use mathlib.Core.Logic.{_⊎_}
 use mathlib.Core.Bool.{false, true}
@@ -12,13 +12,14 @@ use Rattle.pktree.specs.PixelSet.{member, Ascending, added, removed}
 use Rattle.pktree.specs.Tree.{tree}
 use Rattle.pktree.specs.Window.{openedByPixel, Window, found, openedByWindow}
 use Rattle.pktree.specs.Image.{image}
+use Rattle.searching.specs.NearestPromises.{nearestOn}
 use Rattle.measures.specs.declared.sizes.Sizes.{Sizes}
 use Rattle.measures.specs.Sizes.{ValidSizes, storeWords, sizesOf, UsableStore, panelOf, slotCount}
 use Rattle.image.specs.Judged.{WellFormed, FitsRegister, ImageOfSome}
 use Rattle.image.specs.Held.{HasImage, panelIn, mostIn, mostBytes}
-use Rattle.promises.specs.Answer.{Answer, refused, accepted, yesNo}
+use Rattle.promises.specs.Answer.{Answer, refused, accepted, yesNo, searched}
 use Rattle.promises.specs.Effect.{effect, _else_then_, Effect, Returns, Unchanged, OfPixel, partIn, OfWindow, OfPart}
-use Rattle.promises.specs.Walk.{Walks, Accepts}
+use Rattle.promises.specs.Walk.{Walks, Accepts, Searches}
 use Rattle.promises.specs.Change.{Becomes, Done, Disabled}
 use Rattle.promises.specs.Output.{SameLength, WrittenOrShort, WritesOrShort}
 use Rattle.store.specs.Sound.{IsSound}
@@ -79,7 +80,7 @@ Fills words codes =
 abbrev pub FillMeets : List ℕ → List ℕ → List ℕ → Answer → Type 0
 FillMeets before after codes given = (UsableStore before else refused 3 then Fills before codes) (effect given before after)
 
--- ask, count and check are lent the store for reading only, so no word of it changes
+-- ask, nearest, count and check are lent the store for reading only, so no word of it changes
 
 -- ask (store, x, y): never more blocks opened than the order m; on a sound store marked or not, and the instantiated blocks that contain the pixel
 abbrev pub Asks : List ℕ → ℕ → Effect → Type 0
@@ -90,12 +91,22 @@ Asks words code =
 abbrev pub AskMeets : List ℕ → ℕ → ℕ → Answer → Type 0
 AskMeets words x y given = OfPixel words x y (Asks words (codeOf x y)) (effect given words words)
 
-abbrev pub windowGiven : ℕ → ℕ → ℕ → ℕ → Window
-windowGiven x0 y0 x1 y1 = record { x0 = x0; y0 = y0; x1 = x1; y1 = y1 }
-
 -- 01's S
 abbrev pub slotsIn : List ℕ → ℕ
 slotsIn words = slotCount (sizesOf words .k) (sizesOf words .most)
+
+-- 02, P5: nearest (store, x, y, budget): never more blocks opened than the budget, nor than S; on a sound store the six values of the search
+abbrev pub FindsNearest : List ℕ → ℕ → ℕ → Effect → Type 0
+FindsNearest words code budget =
+    1 ≤ budget else refused 15 then
+    Walks words (Searches (min budget (slotsIn words))) Unchanged
+    (λ set. Returns (searched (nearestOn (panelOf (sizesOf words)) set code budget)))
+
+abbrev pub NearestMeets : List ℕ → ℕ → ℕ → ℕ → Answer → Type 0
+NearestMeets words x y budget given = OfPixel words x y (FindsNearest words (codeOf x y) budget) (effect given words words)
+
+abbrev pub windowGiven : ℕ → ℕ → ℕ → ℕ → Window
+windowGiven x0 y0 x1 y1 = record { x0 = x0; y0 = y0; x1 = x1; y1 = y1 }
 
 -- on a sound store: the marked pixels in the window, and the instantiated blocks that share a pixel with it
 abbrev pub foundAndOpened : List ℕ → Window → List ℕ → Answer

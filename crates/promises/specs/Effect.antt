@@ -38,7 +38,7 @@ HasPixelOn words x y = HasPixel (panelOf (sizesOf words)) x y
 abbrev pub partIn : List ℕ → Window → Window
 partIn words window = partOn (panelOf (sizesOf words)) window
 
--- the checks that ask, mark and clear share
+-- the checks that ask, nearest, mark and clear share
 abbrev pub OfPixel : List ℕ → ℕ → ℕ → (Effect → Type 0) → Effect → Type 0
 OfPixel words x y rest = UsableStore words else refused 3 then HasPixelOn words x y else refused 4 then rest
 

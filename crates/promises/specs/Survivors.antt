@@ -19,6 +19,7 @@ pub data Call : Type 0 where
   mark : ℕ → ℕ → Call
   clear : ℕ → ℕ → Call
   ask : ℕ → ℕ → Call
+  nearest : ℕ → ℕ → ℕ → Call
   count : ℕ → ℕ → ℕ → ℕ → Call
   list : ℕ → ℕ → ℕ → ℕ → List ℕ → Call
   save : List ℕ → Call
@@ -48,6 +49,7 @@ abbrev pub next : Sizes → List ℕ → Call → List ℕ
 next sizes set (mark x y) = cond (isAdded sizes set x y) (added (codeOf x y) set) set
 next sizes set (clear x y) = cond (isRemoved sizes set x y) (removed (codeOf x y) set) set
 next sizes set (ask x y) = set
+next sizes set (nearest x y budget) = set
 next sizes set (count x0 y0 x1 y1) = set
 next sizes set (list x0 y0 x1 y1 output) = set
 next sizes set (save output) = set

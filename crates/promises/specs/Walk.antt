@@ -1,4 +1,4 @@
--- 01 "Whoever damaged the words": what the six calls that walk the slots say where no check before the walk refuses them.
+-- 01 "Whoever damaged the words": what the seven calls that walk the slots say where no check before the walk refuses them.
 use Prim.Native.Nat.{ℕ, _≤_, _<_}
 use mathlib.Core.Path.{_≡_}
 use mathlib.Core.Logic.{_⊎_}
@@ -6,18 +6,25 @@ use mathlib.Core.List.{List}
 use lib.ListN.{getD}
 use Rattle.measures.specs.Sizes.{storeWords, sizesOf}
 use Rattle.store.specs.Sound.{Holds}
-use Rattle.promises.specs.Answer.{refused}
+use Rattle.promises.specs.Answer.{none, refused}
 use Rattle.promises.specs.Effect.{Effect}
 
 -- 01: words 0 to 3 right and all others FFFFFFFF hexadecimal; words past the formula may be anything
 abbrev pub Spoiled : List ℕ → Type 0
 Spoiled words = (i : ℕ) → 4 ≤ i → i < storeWords (sizesOf words) → getD words i 0 ≡ 0xFFFFFFFF
 
--- accepted, with values of at most so much
+-- accepted, with two values of at most so much
 pub record Accepts (first second : ℕ) (e : Effect) : Type 0 where
   pub accepted : e .answer .refusal ≡ 0
   pub first-to : e .answer .first ≤ first
   pub second-to : e .answer .second ≤ second
+  pub no-further : e .answer .further ≡ none
+
+-- 02, P5: a search ended, with at most so many blocks opened
+pub record Searches (opened : ℕ) (e : Effect) : Type 0 where
+  pub accepted : e .answer .refusal ≡ 0
+  pub found-to : e .answer .first ≤ 1
+  pub opened-to : e .answer .second ≤ opened
 
 -- 13, with zeros: never on a sound store, always on a spoiled one
 pub record Walks (words : List ℕ) (Answers Damaged : Effect → Type 0) (Right : List ℕ → Effect → Type 0) (e : Effect) : Type 0 where

@@ -23,12 +23,9 @@ use Rattle.descent.proofs.OpenedByPixel.{opened-by-pixel, marked-exactly}
 use Rattle.promises.specs.Answer.{accepted, refused, yesNo}
 use Rattle.promises.specs.Effect.{effect}
 use Rattle.promises.specs.Calls.{Asks}
+use Rattle.promises.proofs.Answers.{yes-no-to}
 use Rattle.promises.proofs.SpoiledRoot.{spoiled-shut}
 use Rattle.pktree.specs.Elements.{unlabelled}
-
-yes-no-to : (marked : Bool) → yesNo marked ≤ 1
-yes-no-to true = omega arith
-yes-no-to false = omega arith
 
 module _ (words : List ℕ) (code : ℕ) (sizes : Sizes) (layout : Layout) (slots places : List ℕ) (r : Located) (usable : UsableStore words) (sizes-are : sizes ≡ sizesOf words) (laid : LaidOut sizes layout)
     (on : OnPanel (panelOf sizes) code) (m : LocateMeets words layout (sizes .order) code slots places r) where
@@ -46,7 +43,7 @@ module _ (words : List ℕ) (code : ℕ) (sizes : Sizes) (layout : Layout) (slot
   pub asked-known : r .damaged ≡ false → Asks words code (effect (accepted (yesNo (r .marked)) (r .depth + 1)) words words)
   asked-known ok =
       record {
-        ends = inl (record { accepted = refl; first-to = yes-no-to (r .marked); second-to = omega (arith, m .bounds ok .deep, m .bounds ok .level-from, order-is) });
+        ends = inl (record { accepted = refl; first-to = yes-no-to (r .marked); second-to = omega (arith, m .bounds ok .deep, m .bounds ok .level-from, order-is); no-further = refl });
         spoiled = λ s. zero-is-not-one (cc (shut (spoiled-shut words usable s), ok));
         sound = λ set holds.
             let s = holds .sound in

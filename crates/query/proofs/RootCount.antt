@@ -69,7 +69,7 @@ module _ {words : List ℕ} {window : tree.Window} {corners : Corners} {sum : Su
       → calls.CountsIn words (windowBetween corners) (effect (countAnswer r) words words)
   root-counted usable (Found f o) h =
       record {
-        ends = inl (record { accepted = refl; first-to = h .2; second-to = h .3 });
+        ends = inl (record { accepted = refl; first-to = h .2; second-to = h .3; no-further = refl });
         spoiled = λ s. absurd (omega (arith, h .1, h .3, root .counted .closed (spoiled-shut words usable s)));
         sound = λ set holds. let s = sum-is holds in record { is = ap₂ accepted (h .0 ∙ s .0) (h .1 ∙ s .1); same = refl };
       }

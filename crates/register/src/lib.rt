@@ -1,6 +1,6 @@
 // The register of unfit pixels: the calls that are open to users. None has a requires; each has one ensures, over 01's number and values of its answer.
-ghost use Rattle.answers.specs.Answer.{answer, askAnswer, countAnswer, listAnswer, saveAnswer, checkAnswer};
-ghost use Rattle.promises.specs.Calls.{MakeMeets, MarkMeets, ClearMeets, AskMeets, CountMeets, ListMeets, SaveMeets, LoadMeets, FillMeets, CheckMeets};
+ghost use Rattle.answers.specs.Answer.{answer, askAnswer, countAnswer, listAnswer, saveAnswer, checkAnswer, searchAnswer};
+ghost use Rattle.promises.specs.Calls.{MakeMeets, MarkMeets, ClearMeets, AskMeets, NearestMeets, CountMeets, ListMeets, SaveMeets, LoadMeets, FillMeets, CheckMeets};
 use answers::Asking;
 use answers::Checking;
 use answers::Counting;
@@ -8,6 +8,7 @@ use answers::Listing;
 use answers::Outcome;
 use answers::Refusal;
 use answers::Saving;
+use answers::Searching;
 use answers::judging::PixelJudged;
 use answers::judging::WindowJudged;
 use answers::judging::judge_pixel;
@@ -20,6 +21,7 @@ use measures::sizes::read_sizes;
 use measures::sizes::store_end;
 use measures::sizes::within_limits;
 use measures::sizes::write_sizes;
+use nearest::answer::find_nearest;
 use query::window::Window;
 use soundness::is_sound;
 
@@ -67,6 +69,16 @@ pub fn ask(store: &[u32], x: u32, y: u32) -> Asking
     match judge_pixel(store, x, y) {
         PixelJudged::Refused(refusal) => Asking::Refused(refusal),
         PixelJudged::Pixel { sizes, code } => query::ask::ask(store, sizes, code),
+    }
+}
+
+// 02, P5: the marked pixel nearest to (x, y), with a budget of blocks to open, and a limit below which no marked pixel can be.
+pub fn nearest(store: &[u32], x: u32, y: u32, budget: u32) -> Searching
+    ensures { λ r. ⌜ NearestMeets (now (store .entry)) x y budget (searchAnswer r) ⌝ }
+{
+    match judge_pixel(store, x, y) {
+        PixelJudged::Refused(refusal) => Searching::Refused(refusal),
+        PixelJudged::Pixel { sizes, code } => find_nearest(store, sizes, code, budget),
     }
 }
 

@@ -106,7 +106,7 @@ module _ {words : List ℕ} {told : Numbers} (answer : NumbersAnswer words told)
       all-written usable =
           record {
             ends = inl (inl (record {
-              accepts = record { accepted = refl; first-to = few-bytes; second-to = omega arith };
+              accepts = record { accepted = refl; first-to = few-bytes; second-to = omega arith; no-further = refl };
               room = room;
               rest = ap (drop (headerLength + 5 * (found + opened))) (front .is) ∙ drop-at (front .part) (drop (headerLength + 5 * (found + opened)) before) (headerLength + 5 * (found + opened)) part-long;
               long = same-length;

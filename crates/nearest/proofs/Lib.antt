@@ -1,0 +1,15 @@
+pub mod DistanceLaws
+pub mod PassedTo
+pub mod BestLaws
+pub mod SeenElements
+pub mod MetElements
+pub mod MetBlocks
+pub mod LeastEntries
+pub mod EntryOrder
+pub mod Stating
+pub mod Turns
+pub mod Reached
+pub mod SearchSteps
+pub mod Going
+pub mod Looping
+pub mod Finding
