@@ -1,10 +1,10 @@
 // Times the calls of pkreg beside five other sets of pixels on the same seeded work, and stops if any of them finds another number.
 // Usage: bench [--pixels N] [--seed S]                                        the tables
 //        bench --only NAME [--panel spread|crowded] [--pixels N] [--k K]      one kind of call on pkreg alone, for callgrind;
-//                                                                             fill-c++ is the fill of build.hpp
-#include "sets.hpp"
+//                                                                             fill-c++ is the fill of build.hpp, nearest and nearest-r-tree
+//                                                                             take --panel ring too
+#include "nearest.hpp"
 
-#include <chrono>
 #include <map>
 
 enum Operation {
@@ -122,6 +122,14 @@ static void compare(bool crowded, size_t pixels, uint32_t seed)
 static int perform_only(std::map<std::string, std::string> &options)
 {
     size_t pixels = std::stoul(options["--pixels"]);
+    if (options["--only"].rfind("nearest", 0) == 0) {
+        Searches searches = searches_on(options["--panel"], pixels, 1);
+        if (options["--only"] == "nearest")
+            seek_only(Register(searches.order, std::stoul(options["--k"]), searches.ascending.size()), searches);
+        else
+            seek_only(PointTree(), searches);
+        return 0;
+    }
     Workload work(options["--panel"] == "crowded", pixels, 1);
     Output output = room_for(work);
     Register set(work.order, std::stoul(options["--k"]), pixels);
@@ -156,6 +164,10 @@ int main(int count, char **arguments)
     for (bool crowded : {false, true})
         for (size_t pixels : sizes)
             compare(crowded, pixels, std::stoul(options["--seed"]));
+    std::printf("\nThe nearest pixel, with no bound: time of a call, the R-tree's over it, blocks opened on average and at most.\n");
+    std::printf("%-8s %6s %2s %13s %12s %10s %8s\n", "", "pixels", "k", "pkreg", "R-tree", "opened", "at most");
+    for (const char *panel : {"spread", "crowded", "ring"})
+        compare_nearest(panel, sizes.size() == 1 ? sizes[0] : 20000, std::stoul(options["--seed"]), REPEATS);
     std::printf("\nAll found the same numbers.\n");
     return 0;
 }

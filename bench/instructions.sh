@@ -1,7 +1,7 @@
 #!/bin/sh
 # Instructions of a call of pkreg on 20,000 pixels, counted by callgrind inside that call only, beside the targets of the design:
-# an unverified C++ PK-tree of the same layout; fill beside the C++ build of bench/build.hpp, counted in the same way. Needs valgrind; callgrind's
-# files stay in build/, for callgrind_annotate.
+# an unverified C++ PK-tree of the same layout; fill beside the C++ build of bench/build.hpp, nearest beside boost's R-tree, counted in the same
+# way. Needs valgrind; callgrind's files stay in build/, for callgrind_annotate.
 cd "$(dirname "$0")/.." || exit 1
 PIXELS=${PIXELS:-20000}
 
@@ -38,6 +38,17 @@ fill_row() {
     done
 }
 
+# nearest_row PANEL: unbounded searches; the last figure is the blocks opened
+nearest_row() {
+    for k in 3 8; do
+        ours=$(instructions nearest pk_nearest "$1" "$k") || exit 1
+        other=$(instructions nearest-r-tree 'PointTree::nearest*' "$1" "$k") || exit 1
+        echo "$ours" "$other" | awk -v panel="$1" -v k="$k" '
+            { each = $5 / $1; target = $10 / $6
+              printf "%-11s %-8s %2d %10.1f per %-6s %8.0f %6.2f %9.1f\n", "nearest", panel, k, each, "call", target, each / target, $3 / $1 }'
+    done
+}
+
 printf '%-11s %-8s %2s %10s     %-6s %8s %6s %9s\n' call panel k measured '' target ratio found/call
 for panel in spread crowded; do
     row mark pk_mark $panel call 620 600
@@ -53,3 +64,6 @@ row count-256 pk_count crowded call
 row list-256 pk_list crowded call
 row count-16 pk_count spread call
 row list-16 pk_list spread call
+for panel in spread crowded ring; do
+    nearest_row $panel
+done

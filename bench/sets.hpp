@@ -24,6 +24,9 @@ inline void must(bool holds, const char *what, const char *which)
     }
 }
 
+// The squared distance of the nearest pixel, and the blocks opened on the way.
+struct Nearest { uint64_t distance, opened; };
+
 class Register {
     std::vector<uint32_t> store;
 
@@ -35,6 +38,12 @@ public:
     bool mark(Pixel p) { return pk_mark(store.data(), store.size(), p.x, p.y) == PK_ACCEPTED; }
     bool clear(Pixel p) { return pk_clear(store.data(), store.size(), p.x, p.y) == PK_ACCEPTED; }
     bool ask(Pixel p) const { return pk_ask(store.data(), store.size(), p.x, p.y).first == 1; }
+    Nearest nearest(Pixel p) const
+    {
+        pk_nearest_answer answer = pk_nearest(store.data(), store.size(), p.x, p.y, UINT32_MAX);
+        must(answer.complete && answer.found, "finds no pixel", "nearest");
+        return {answer.distance, answer.opened};
+    }
     uint32_t count(Window w) const { return pk_count(store.data(), store.size(), w.x0, w.y0, w.x1, w.y1).first; }
     uint32_t list(Window w, Codes &output) const
     {
@@ -224,6 +233,14 @@ public:
     {
         boost::geometry::model::box<Point> box(point({w.x0, w.y0}), point({w.x1, w.y1}));
         tree.query(boost::geometry::index::intersects(box), boost::make_function_output_iterator([&](const Point &p) { visit(code(p)); }));
+    }
+    // Any of the nearest points; how many nodes were opened is not told. Not inlined, for callgrind.
+    __attribute__((noinline)) Nearest nearest(Pixel p) const
+    {
+        Point found;
+        tree.query(boost::geometry::index::nearest(point(p), 1), &found);
+        int64_t dx = found.get<0>() - int64_t(p.x), dy = found.get<1>() - int64_t(p.y);
+        return {uint64_t(dx * dx + dy * dy), 0};
     }
     size_t save(Bytes &output) const
     {

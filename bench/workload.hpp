@@ -1,4 +1,4 @@
-// The seeded work that every set of pixels is given: pixels, windows, and the order in which they are marked, asked for and cleared.
+// The seeded work that every set of pixels is given: pixels, windows, places, and the order in which they are marked, asked for and cleared.
 #pragma once
 #include <algorithm>
 #include <cstdint>
@@ -43,6 +43,7 @@ struct Workload {
     std::vector<Pixel> spots, pixels, asked, cleared;
     std::vector<uint32_t> ascending; // the codes of the pixels
     std::vector<Window> small, medium, over_spots, whole;
+    std::vector<Pixel> places; // from which the nearest pixel is sought
 
     Workload(bool crowded, size_t number, uint32_t seed) : order(crowded ? 11 : 16), draws(seed)
     {
@@ -58,6 +59,8 @@ struct Workload {
         for (Pixel pixel : pixels)
             ascending.push_back(code_of(pixel));
         std::sort(ascending.begin(), ascending.end());
+        for (int i = 0; i < 500; i++)
+            places.push_back(anywhere());
     }
 
 private:

@@ -16,7 +16,8 @@
  *   - a pointer to as many words or bytes as the number beside it says, aligned for its type; null is allowed beside a length of 0;
  *   - a store and an image, codes or an output that do not overlap;
  *   - one thread at a time on a store. The library has no state of its own, so different stores need no lock;
- *   - 16 KiB of stack. This is tried, not proved: tests/stack_test.c runs every call on 16 KiB, and they use about 9 KiB.
+ *   - 16 KiB of stack, and 1 MiB for pk_nearest. This is tried, not proved: tests/stack_test.c runs every call on so much, and they use
+ *     about 9 KiB, pk_nearest TODO-FIGURE KiB.
  * Given that, no call can fail in another way than by its refusal: no other argument and no content of the store is asked for
  * beforehand, no call reads or writes past what was lent, and each call ends.
  */
@@ -25,10 +26,10 @@
 
 /* The version; the Makefile takes it from here. A new MAJOR gives the shared library a new name, so no program meets one that it was not
    linked for. */
-#define PK_VERSION "1.3.1"
+#define PK_VERSION "1.4.0"
 #define PK_VERSION_MAJOR 1
-#define PK_VERSION_MINOR 3
-#define PK_VERSION_PATCH 1
+#define PK_VERSION_MINOR 4
+#define PK_VERSION_PATCH 0
 
 #include <stddef.h>
 #include <stdint.h>
@@ -51,8 +52,8 @@ enum {
     /* The words are no register, or fewer are lent than pk_words(k, most). Call pk_make first, and lend the same words to every call. After
        a 13 of pk_mark or pk_clear: pk_make, then pk_load of the last image. */
     PK_NO_REGISTER = 3,
-    /* pk_mark, pk_clear, pk_ask: the pixel is not on the panel; give x and y below 2^m. pk_fill: a code is not; give codes below 4^m. A window
-       may reach past the panel: see pk_count. */
+    /* pk_mark, pk_clear, pk_ask, pk_nearest: the pixel is not on the panel; give x and y below 2^m. pk_fill: a code is not; give codes below
+       4^m. A window may reach past the panel: see pk_count. */
     PK_OFF_PANEL = 4,
     /* pk_mark: the pixel is marked already. There is nothing to do. */
     PK_ALREADY_MARKED = 5,
@@ -76,13 +77,21 @@ enum {
        the other calls left the store, and the content of their output is free. A damaged store is not always met: pk_check tells. */
     PK_STORE_DAMAGED = 13,
     /* pk_fill: the codes do not strictly ascend. Sort them, and give each once. */
-    PK_NOT_ASCENDING = 14
+    PK_NOT_ASCENDING = 14,
+    /* pk_nearest: the budget is zero. Give the most blocks that the search may open, 1 or more; 4294967295 sets no bound. */
+    PK_NO_BUDGET = 15
 };
 
 /* The refusal, and two values whose meaning stands beside each call. */
 typedef struct {
     uint32_t refusal, first, second;
 } pk_answer;
+
+/* The refusal, and what pk_nearest returns. distance and limit are squared distances, of up to 33 bits. */
+typedef struct {
+    uint64_t distance, limit;
+    uint32_t refusal, found, code, opened, complete;
+} pk_nearest_answer;
 
 /* The words that a register of this k and most needs; 0 if k or most is beyond its limits. The order m does not matter. */
 uint64_t pk_words(uint32_t k, uint32_t most);
@@ -108,6 +117,17 @@ uint32_t pk_fill(uint32_t *store, size_t words, const uint32_t *codes, size_t co
 
 /* first: 1 for a marked pixel, else 0. second: the blocks opened, which are those of the tree that contain the pixel. Refusals 3, 4, 13. */
 pk_answer pk_ask(const uint32_t *store, size_t words, uint32_t x, uint32_t y);
+
+/* The marked pixel nearest to (x, y), sought until it is certain or `budget` blocks are opened. Blocks are opened from the root down, of
+   those met always the one whose nearest position is nearest, at a tie the one of the lowest code.
+   found: 1 if a pixel was found, else 0. code, distance: the nearest pixel found, of equally near ones the one of the lowest code, and its
+   squared distance; zeros where none was found. opened: the blocks opened, never more than the budget, and fewer only when complete is 1.
+   limit: no marked pixel has a lower squared distance, also where the search ended early: so it tells how far around the place the panel
+   is certainly fit. complete: 1 when no block is left that could hold a pixel as near as the one found, else 0. The pixel is then the nearest
+   of all, and limit is its distance; or found is 0, nothing is marked, and limit is 0. A larger budget never gives a farther pixel or a
+   smaller limit, and a budget of all the blocks of the tree always completes the search.
+   Most searches use about 8 KiB of stack, but one among many blocks at nearly one distance needs about 790 KiB. Refusals 3, 4, 13, 15. */
+pk_nearest_answer pk_nearest(const uint32_t *store, size_t words, uint32_t x, uint32_t y, uint32_t budget);
 
 /* The window from (x0, y0) to (x1, y1), both corners included; it may reach past the panel, to any coordinate, and its part on the panel is
    meant. first: the marked pixels in it. second: the blocks opened, which are those of the tree that share a pixel with it. A window wholly

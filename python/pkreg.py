@@ -13,10 +13,10 @@ number of blocks opened: the blocks of the tree whose elements the call has read
 import ctypes
 import operator
 import os
-from typing import NamedTuple
+from typing import NamedTuple, Optional
 
 # that of include/pkreg.h; the library is opened by the name that goes with its first number
-__version__ = "1.3.1"
+__version__ = "1.4.0"
 
 MEANINGS = {
     1: "m, k or most is beyond its limits: m is 1 to 16, k 2 to 16, most 1 to 65535",
@@ -33,8 +33,11 @@ MEANINGS = {
     12: "no set of pixels has this image: its bytes were changed",
     13: "the store is damaged: something else wrote to its words",
     14: "the codes do not strictly ascend: sort them, and give each once",
+    15: "the budget is zero: let the search open one block or more",
 }
 LARGEST_MOST = 65535
+# a budget that no search can spend
+UNBOUNDED = 2**32 - 1
 HEAD_BYTES = 10
 
 
@@ -57,6 +60,14 @@ class Asked(NamedTuple):
     opened: int
 
 
+class Nearest(NamedTuple):
+    pixel: Optional[tuple]
+    distance: int
+    opened: int
+    limit: int
+    complete: bool
+
+
 class Counted(NamedTuple):
     found: int
     opened: int
@@ -71,6 +82,12 @@ class _Answer(ctypes.Structure):
     _fields_ = [("refusal", ctypes.c_uint32), ("first", ctypes.c_uint32), ("second", ctypes.c_uint32)]
 
 
+class _NearestAnswer(ctypes.Structure):
+    _fields_ = [(name, ctypes.c_uint64) for name in ("distance", "limit")] + [
+        (name, ctypes.c_uint32) for name in ("refusal", "found", "code", "opened", "complete")
+    ]
+
+
 _NUMBER = ctypes.c_uint32
 _WORDS = [ctypes.POINTER(ctypes.c_uint32), ctypes.c_size_t]
 _BYTES = [ctypes.POINTER(ctypes.c_uint8), ctypes.c_size_t]
@@ -82,6 +99,7 @@ _SIGNATURES = {
     "pk_load": (_NUMBER, _WORDS + _BYTES),
     "pk_fill": (_NUMBER, _WORDS + _WORDS),
     "pk_ask": (_Answer, _WORDS + [_NUMBER] * 2),
+    "pk_nearest": (_NearestAnswer, _WORDS + [_NUMBER] * 3),
     "pk_count": (_Answer, _WORDS + [_NUMBER] * 4),
     "pk_list": (_Answer, _WORDS + [_NUMBER] * 4 + _WORDS),
     "pk_save": (_Answer, _WORDS + _BYTES),
@@ -242,6 +260,16 @@ class Register:
         """Whether the pixel is marked, and the blocks opened."""
         answer = self._answer(_calls().pk_ask(*self._lent, _number(x), _number(y)))
         return Asked(answer.first == 1, answer.second)
+
+    def nearest(self, x, y, budget=UNBOUNDED):
+        """The marked pixel nearest to this one, as far as a search that opens so many blocks at most can tell; of equally near pixels that of
+        the lowest code. pixel is the nearest one found, as (x, y), or None, and distance its squared distance, 0 beside None. No marked pixel
+        has a squared distance below limit, also where the search ended early. Where complete is True, the pixel is the nearest of all, or
+        None as nothing is marked. Refusal 15 for a budget of 0."""
+        answer = _calls().pk_nearest(*self._lent, *map(_number, (x, y, budget)))
+        self._done(answer.refusal)
+        pixel = pixel_of(answer.code) if answer.found else None
+        return Nearest(pixel, answer.distance, answer.opened, answer.limit, answer.complete == 1)
 
     def count(self, x0, y0, x1, y1):
         """The marked pixels in the window, both corners included, and the blocks opened: of its part on the panel, where it reaches past that.

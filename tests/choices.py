@@ -1,4 +1,6 @@
-"""Random sizes, pixels, windows, images and codes, with a liking for what is near a limit."""
+"""Random sizes, pixels, windows, searches, images and codes, with a liking for what is near a limit."""
+
+import math
 
 from model import corner, image_of, interleave
 
@@ -67,6 +69,28 @@ def over_edges(random, model):
         low.append(first)
         high.append(max(first, random.choice((*ends, first, min(first + 2, FAR)))))
     return *low, *high
+
+
+def search(random, model):
+    """A place and a budget for nearest: a pixel, the middle between two marked ones, which are then as near, or a corner of the panel; no block,
+    some, all that are held, one fewer or more, or no bound."""
+    place, held, last = pixel(random, model), len(model.tree().blocks), 2**model.order - 1
+    if random.random() < 0.3 and model.codes:
+        one, other = (corner(random.choice(sorted(model.codes))) for _ in "ab")
+        place = (one[0] + other[0]) // 2, (one[1] + other[1]) // 2
+    elif random.random() < 0.1:
+        place = random.choice((0, last)), random.choice((0, last))
+    return *place, random.choice((0, 1, 1, 2, 3, random.randint(1, held), held - 1, held, held + 1, FAR, FAR))
+
+
+def ring(random, model):
+    """The place, and codes of pixels at nearly one distance from it, no more than the register may hold: those on a circle, whole or in part."""
+    last = 2**model.order - 1
+    x, y = (random.randint(0, last) for _ in "xy")
+    radius, number = random.randint(1, last), random.randint(1, model.most)
+    about = [math.tau * i / number for i in range(number)]
+    drawn = [(round(x + radius * math.cos(angle)), round(y + radius * math.sin(angle))) for angle in about]
+    return (x, y), sorted({interleave(a, b) for a, b in drawn if 0 <= a <= last and 0 <= b <= last})
 
 
 def codes(random, model, limit=60):

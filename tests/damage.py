@@ -10,8 +10,7 @@ from model import Model, image_of, usable, within, words_needed
 from spoiling import DAMAGES, NO_REGISTER, SPOILED, put_sizes_right
 from subject import Subject, expect
 
-WALKING = ("mark", "clear", "ask", "count", "list", "save")
-REFUSED = {number: (number, 0, 0) for number in (3, 4, 8, 13)}
+WALKING = ("mark", "clear", "ask", "nearest", "count", "list", "save")
 # a window wholly off the panel is answered without a look at the slots
 NOTHING_THERE = (0, 0, 0)
 
@@ -20,16 +19,18 @@ def is_spoiled(store):
     return all(store[at] == SPOILED for at in range(4, words_needed(store[2], store[3])))
 
 
-def decided(store, numbers):
-    """The answer of a call that walks the slots, where it is known without a walk; none where the walk may answer otherwise."""
+def decided(store, name, numbers):
+    """The refusal of a call that walks the slots, where it is known without a walk, or 0; none where the walk may answer otherwise."""
     if not usable(store):
-        return REFUSED[3]
+        return 3
     off = any(number >= 2 ** store[1] for number in numbers[:2])
     if len(numbers) == 4 and (numbers[0] > numbers[2] or numbers[1] > numbers[3]):
-        return REFUSED[8]
+        return 8
     if off:
-        return NOTHING_THERE if len(numbers) == 4 else REFUSED[4]
-    return REFUSED[13] if is_spoiled(store) else None
+        return 0 if len(numbers) == 4 else 4
+    if name == "nearest" and numbers[2] == 0:
+        return 15
+    return 13 if is_spoiled(store) else None
 
 
 def arguments(random, model, name):
@@ -38,18 +39,20 @@ def arguments(random, model, name):
         return (), octets(random.randbytes(random.choice((0, 10, 700, 10 + 10 * model.most + 10))))
     if name == "list":
         return choices.window(random, model), words([random.getrandbits(32) for _ in range(random.choice((0, 1, model.most + 10)))])
-    return (choices.window if name == "count" else choices.pixel)(random, model), None
+    choose = {"count": choices.window, "nearest": choices.search}.get(name, choices.pixel)
+    return choose(random, model), None
 
 
 def walking_call(random, subject, model, name):
     numbers, output = arguments(random, model, name)
-    due = decided(subject.store, numbers)
+    due = decided(subject.store, name, numbers)
     answer = subject.call(name, *numbers, output=output)
     refusal = answer[0]
     # the walk itself gives none of these
-    told = answer if due or refusal in (3, 4, 8) else None
+    told = refusal if due is not None or refusal in (3, 4, 8, 15) else None
     expect(f"{name}{numbers} on a damaged store", told, due)
-    if due == NOTHING_THERE:
+    if due == 0:
+        expect(f"{name}{numbers} off a damaged panel", answer, NOTHING_THERE)
         subject.tally["windows off a damaged panel"] += 1
     if refusal == 13 and name in ("mark", "clear"):
         all_give_3(random, subject, model)
@@ -134,7 +137,7 @@ def further_calls(random, subject, model):
         fresh = call(random, subject, model, random.choice(WALKING + WALKING + tuple(OTHER_CALLS)))
         if fresh:
             model = fresh
-            for name in ("mark", "mark", "list", "clear", "save"):
+            for name in ("mark", "mark", "list", "nearest", "clear", "save"):
                 step(random, subject, model, name)
             last_look(subject, model)
             random.choice(DAMAGES)(random, subject, model)

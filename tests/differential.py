@@ -37,7 +37,7 @@ def run(seed, first, number):
             print(f"again: python3 tests/differential.py --seed {seed} --first {index} --histories 1")
             return 1
     calls = ", ".join(f"{tally[name]} {name}" for name in REFUSALS)
-    refusals = ", ".join(f"{number}: {tally[number]}" for number in range(1, 15))
+    refusals = ", ".join(f"{number}: {tally[number]}" for number in range(1, 16))
     print(f"differential: seed {seed}, histories {first} to {first + number - 1}")
     print(f"  damaged stores: {tally['damaged stores']}, checks that said yes all the same: {tally['told sound']}, windows off their panel: {tally['windows off a damaged panel']}")
     print(f"  calls: {calls}")

@@ -5,7 +5,7 @@ from lent import octets, words
 from model import Model, corner, words_needed
 from subject import Subject, expect
 
-LOOKS = ("ask",) * 3 + ("count",) * 2 + ("list",) * 2 + ("save", "check")
+LOOKS = ("ask",) * 3 + ("nearest",) * 3 + ("count",) * 2 + ("list",) * 2 + ("save", "check")
 # a history grows, shrinks or is mixed for some steps each, so that trees become large and dissolve again
 PHASES = (("mark",) * 16 + LOOKS, ("mark",) * 3 + ("clear",) * 14 + LOOKS, ("mark",) * 8 + ("clear",) * 6 + ("load",) * 3 + ("fill",) * 3 + LOOKS)
 
@@ -23,6 +23,10 @@ def made(random, m, k, most, tally):
 
 def room(random, needed):
     return random.choice((needed, needed, needed + 1, needed + 7, max(needed - 1, 0), 0))
+
+
+def nearest_call(subject, model, *search):
+    expect(f"nearest{search}", subject.call("nearest", *search), model.nearest(*search))
 
 
 def list_call(random, subject, model):
@@ -59,6 +63,8 @@ def step(random, subject, model, name):
     elif name == "ask":
         pixel = choices.pixel(random, model)
         expect(f"ask{pixel}", subject.call("ask", *pixel), model.ask(*pixel))
+    elif name == "nearest":
+        nearest_call(subject, model, *choices.search(random, model))
     elif name == "count":
         window = choices.window(random, model)
         expect(f"count{window}", subject.call("count", *window), model.count(*window))
@@ -110,6 +116,17 @@ def same_image_filled(random, model, image, tally):
     expect("the image of the same pixels", last_look(subject, other), image)
 
 
+def searched_ring(random, m, k, most, tally):
+    """A ring of pixels, searched from its middle and from elsewhere, with budgets that end between the first block and the last."""
+    subject, model = made(random, m, k, most, tally), Model(m, k, most)
+    place, codes = choices.ring(random, model)
+    expect(f"fill({codes})", (subject.call("fill", codes=words(codes))[0], model.fill(codes)), (0, 0))
+    held = len(model.tree().blocks)
+    for budget in (1, random.randint(1, held), random.randint(1, held), held, choices.FAR):
+        nearest_call(subject, model, *place, budget)
+        nearest_call(subject, model, *choices.search(random, model))
+
+
 def history(random, tally, steps):
     """A whole history; steps counts for whoever looks at a difference."""
     m, k, most = choices.sizes(random)
@@ -123,4 +140,5 @@ def history(random, tally, steps):
     same_image_elsewhere(random, model, image, tally, detours=0)
     same_image_elsewhere(random, model, image, tally, detours=random.randint(1, 12))
     same_image_filled(random, model, image, tally)
+    searched_ring(random, m, k, most, tally)
     return subject, model

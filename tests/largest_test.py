@@ -1,13 +1,17 @@
-"""The largest register: order 16, k = 2 and 65,535 pixels, against the model's image after marking, loading, filling, and clearing half."""
+"""The largest register: order 16, k = 2 and 65,535 pixels, against the model's image after marking, loading, filling, and clearing half; and
+searches in it against a look at every pixel."""
 
+import math
 import random
 import sys
 
 from lent import LIBRARY, octets, words
-from model import corner, image_of, words_needed
-from subject import Difference, expect
+from model import Model, Tree, corner, image_of, interleave, squared_distance, words_needed
+from spoiling import name_next
+from subject import Difference, Subject, expect, told_by
 
 ORDER, K, MOST = 16, 2, 65535
+MIDDLE, RADIUS, UNBOUNDED = 32768, 16000, 2**32 - 1
 
 
 def chosen(rolls):
@@ -38,6 +42,46 @@ def holds(store, codes):
     return image
 
 
+def ring():
+    """Pairs of pixels on a circle, each of which makes a block: more are met, before a pixel is found, than most searches have places for."""
+    codes = set()
+    for across in range(0, RADIUS, 2):
+        up = math.isqrt(RADIUS**2 - across**2)
+        pairs = [(x, y) for x in (MIDDLE + across, MIDDLE - 2 - across) for y in (MIDDLE + up, MIDDLE - 1 - up)]
+        codes.update(interleave(x + i, y) for x, y in pairs for i in (0, 1))
+    return codes
+
+
+def searched(store, codes, blocks, x, y):
+    """The nearest pixel with no bound, for which every block as near as it is opened; then with so many blocks, one fewer, and some."""
+    distance, code = min((squared_distance(x, y, 0, code), code) for code in codes)
+    opened = sum(squared_distance(x, y, *block) <= distance for block in blocks)
+    whole = told_by("nearest", LIBRARY.pk_nearest(*store.arguments, x, y, UNBOUNDED))
+    expect(f"nearest({x}, {y})", whole, (0, 1, code, distance, opened, distance, 1))
+    for budget in {opened, opened - 1, opened // 2, 1} - {0}:
+        part = LIBRARY.pk_nearest(*store.arguments, x, y, budget)
+        told = part.refusal, part.opened, part.complete, part.limit <= distance, not part.found or distance <= part.distance
+        expect(f"nearest({x}, {y}, {budget})", told, (0, budget, int(budget == opened), True, True))
+
+
+def searches(rolls, store, codes):
+    blocks, around = Tree(ORDER, K, codes).blocks, ring()
+    for _ in range(5):
+        searched(store, codes, blocks, rolls.randrange(2**ORDER), rolls.randrange(2**ORDER))
+    ascending = words(sorted(around))
+    expect("fill with a ring", LIBRARY.pk_fill(*store.arguments, *ascending.arguments), 0)
+    searched(store, around, Tree(ORDER, K, around).blocks, MIDDLE, MIDDLE)
+
+
+def damaged_search(rolls):
+    """More blocks at one time than a search has places for."""
+    subject = Subject([0] * words_needed(K, MOST))
+    expect("make", subject.made(ORDER, K, MOST), 0)
+    name_next(rolls, subject, Model(ORDER, K, MOST))
+    subject.call("nearest", 2**ORDER - 1, 2**ORDER - 1, 999)
+    expect("a search of damaged words", subject.call("nearest", 2**ORDER - 1, 2**ORDER - 1, UNBOUNDED)[0], 13)
+
+
 def run(rolls):
     codes, first, second = chosen(rolls), empty(), empty()
     for code in rolls.sample(sorted(codes), len(codes)):
@@ -52,6 +96,8 @@ def run(rolls):
     holds(third, codes)
     too_many = words(range(MOST + 1))
     expect("fill with one more", LIBRARY.pk_fill(*third.arguments, *too_many.arguments), 6)
+    searches(rolls, third, codes)
+    damaged_search(rolls)
     gone = rolls.sample(sorted(codes), MOST // 2)
     for code in gone:
         expect("clear", LIBRARY.pk_clear(*second.arguments, *corner(code)), 0)
@@ -64,7 +110,7 @@ def main():
     except Difference as difference:
         print(f"largest: DIFFERENCE: {difference}")
         return 1
-    print(f"largest: order {ORDER}, k {K}, {MOST} pixels marked, loaded, filled and half cleared, ok")
+    print(f"largest: order {ORDER}, k {K}, {MOST} pixels marked, loaded, filled, searched and half cleared, ok")
     return 0
 
 

@@ -1,6 +1,7 @@
 """A plain model of the register, written from its specification alone: a set of codes, and the blocks worked out anew from it.
 
-It shares nothing with the library or with python/: not even the interleaving. It answers as the calls do, (refusal, first, second).
+It shares nothing with the library or with python/: not even the interleaving. It answers as the calls do, (refusal, first, second), and
+nearest as (refusal, found, code, distance, opened, limit, complete).
 """
 
 LIMITS = {"m": (1, 16), "k": (2, 16), "most": (1, 65535)}
@@ -39,27 +40,35 @@ def corner(code):
     return int(digits[1::2], 2), int(digits[0::2], 2)
 
 
+def squared_distance(x, y, level, code):
+    """From a place to the nearest position in a block; a pixel is a block of level 0."""
+    nearest = [min(max(value, low), low + 2**level - 1) for value, low in zip((x, y), corner(code))]
+    return (x - nearest[0]) ** 2 + (y - nearest[1]) ** 2
+
+
 class Tree:
-    """The instantiated blocks of a set, each as (level, code)."""
+    """The instantiated blocks of a set, each as (level, code), and the elements of each: pixels, of level 0, and blocks."""
 
     def __init__(self, order, k, codes):
         self.k = k
         self.blocks = []
+        self.elements = {}
         self._elements(order, 0, sorted(codes), order)
 
     def _elements(self, level, code, codes, order):
-        """The number of elements of a block; it is noted if it is instantiated."""
+        """The elements of a block; it is noted if it is instantiated."""
         if level == 0:
-            return len(codes)
-        number = 0
+            return [(0, code) for code in codes]
+        elements = []
         for quarter in range(4):
             low = code + quarter * 4 ** (level - 1)
             inside = [c for c in codes if low <= c < low + 4 ** (level - 1)]
-            given = self._elements(level - 1, low, inside, order) if inside else 0
-            number += given if given < self.k else 1
-        if number >= self.k or level == order:
+            given = self._elements(level - 1, low, inside, order) if inside else []
+            elements += given if len(given) < self.k else [(level - 1, low)]
+        if len(elements) >= self.k or level == order:
             self.blocks.append((level, code))
-        return number
+            self.elements[level, code] = elements
+        return elements
 
 
 def entries_of(order, k, codes):
@@ -146,6 +155,27 @@ class Model:
         code = interleave(x, y)
         opened = sum(low <= code < low + 4**level for level, low in self.tree().blocks)
         return 0, int(code in self.codes), opened
+
+    def nearest(self, x, y, budget):
+        """The search itself: what is met and found, each with its distance first and its code next, so that the least is the one meant."""
+        if not self._on_panel(x, y):
+            return 4, 0, 0, 0, 0, 0, 0
+        if budget == 0:
+            return 15, 0, 0, 0, 0, 0, 0
+        met, found, opened = [(0, 0, self.order)], [], 0
+        while not self._complete(met, found) and opened < budget:
+            _, code, level = met.pop(met.index(min(met)))
+            opened += 1
+            for inner, low in self.tree().elements[level, code]:
+                (met if inner else found).append((squared_distance(x, y, inner, low), low, inner))
+        distance, code, _ = min(found, default=(0, 0, 0))
+        limit = min(found + met, default=(0,))[0]
+        return 0, int(bool(found)), code, distance, opened, limit, int(self._complete(met, found))
+
+    @staticmethod
+    def _complete(met, found):
+        """No met block is left unopened, or all of these are farther than a pixel found."""
+        return not met or bool(found) and min(met)[0] > min(found)[0]
 
     def window(self, x0, y0, x1, y1):
         """The refusal of a window, the codes found in it, and the blocks that share a pixel with it: what of it is off the panel has neither."""

@@ -1,8 +1,10 @@
-"""The model against the specification's sample panels: it is to err, if at all, not where the library does."""
+"""The model against the specification's sample panels, and its searches against a look at every pixel: it is to err, if at all, not where
+the library does."""
 
+import random
 import sys
 
-from model import Model, corner, interleave, judge_image, words_needed
+from model import Model, corner, interleave, judge_image, squared_distance, words_needed
 
 # m, k, the codes, and the entries of their image as level/code
 PANELS = [
@@ -14,6 +16,15 @@ PANELS = [
     (3, 3, [0, 1, 4, 16, 17, 32, 33, 48, 49], "3/0 2/0 0/0 0/1 0/4 0/16 0/17 0/32 0/33 0/48 0/49"),
     (1, 2, [], "1/0"),
     (1, 2, [0, 1, 2, 3], "1/0 0/0 0/1 0/2 0/3"),
+]
+# on the first panel: the place, the budget, and found, code, distance, opened, limit, complete
+SEARCHES = [
+    ((1, 1), 1, (1, 60, 50, 1, 0, 0)),
+    ((1, 1), 2, (1, 1, 1, 2, 1, 1)),
+    ((1, 1), 9, (1, 1, 1, 2, 1, 1)),
+    ((7, 7), 9, (1, 60, 2, 1, 2, 1)),
+    ((4, 0), 1, (1, 60, 40, 1, 9, 0)),
+    ((4, 0), 2, (1, 1, 9, 2, 9, 1)),
 ]
 
 
@@ -30,6 +41,45 @@ def entries(image):
     return " ".join(f"{level}/{code}" for code, level in zip(codes, image[10 + 4 * number :]))
 
 
+def smallest_around(code, blocks):
+    """The block of which the pixel is an element."""
+    return min((level, low) for level, low in blocks if low <= code < low + 4**level)
+
+
+def broken(model, x, y):
+    """What is said of every search and does not hold at this place, with each budget up to one above the blocks held."""
+    away = sorted((squared_distance(x, y, 0, code), code) for code in model.codes)
+    # a block has no lower distance or code than those around it: so they are opened in this order
+    blocks = sorted(model.tree().blocks, key=lambda block: (squared_distance(x, y, *block), block[1], -block[0]))
+    around, before = {code: smallest_around(code, blocks) for code in model.codes}, None
+    for budget in range(1, len(blocks) + 2):
+        refusal, found, code, distance, opened, limit, complete = answer = model.nearest(x, y, budget)
+        shown = [pixel for pixel in away if around[pixel[1]] in blocks[:opened]]
+        left = [squared_distance(x, y, *block) for block in blocks[opened:]]
+        holds = {
+            "the nearest pixel of the blocks opened, or zeros": (found, distance, code) == ((1, *shown[0]) if shown else (0, 0, 0)),
+            "the limit is the least of that distance and those to the other blocks": limit == min([distance] * found + left, default=0),
+            "no pixel is below the limit": not away or limit <= away[0][0],
+            "complete when all other blocks are farther": complete == all(found and distance < other for other in left),
+            "then it is the nearest of all, of these that of the lowest code": not complete or [(distance, code)] == away[:1] or not away,
+            "nothing marked": bool(away) or (found, limit, complete) == (0, 0, 1),
+            "opened to the budget, below it only when complete": opened == budget or complete and opened < budget,
+            "all the held blocks complete it": complete or budget < len(blocks),
+            "no farther with a larger budget": not (before and before[1]) or found and distance <= before[3],
+            "no lower limit with a larger budget": not before or limit >= before[5],
+        }
+        before = answer
+        yield from (f"{sentence}: {sorted(model.codes)} {x, y} {budget} {answer}" for sentence, so in holds.items() if refusal or not so)
+
+
+def drawn(rolls):
+    """A register with some pixels, in a part of the panel or all over it."""
+    m, k = rolls.randint(1, 6), rolls.choice((2, 2, 3, 4, 8))
+    model = Model(m, k, 100)
+    model.fill(sorted({rolls.randrange(4 ** rolls.randint(1, m)) for _ in range(rolls.randrange(70))}))
+    return model
+
+
 def cases():
     """What is told, and what the specification says."""
     for m, k, codes, expected in PANELS:
@@ -41,6 +91,16 @@ def cases():
     yield first.ask(3, 3), (0, 0, 1)
     yield first.window(4, 4, 7, 7), (0, [60], 1)
     yield first.ask(8, 0), (4, 0, 0)
+    for place, budget, expected in SEARCHES:
+        yield first.nearest(*place, budget), (0, *expected)
+    yield holding(3, 3, []).nearest(4, 0, 1), (0, 0, 0, 0, 1, 0, 1)
+    yield holding(3, 3, [0, 1, 2]).nearest(4, 0, 1), (0, 0, 0, 0, 1, 9, 0)
+    yield [first.nearest(8, 0, 0), first.nearest(0, 2**32 - 1, 1)], [(4, 0, 0, 0, 0, 0, 0)] * 2
+    yield first.nearest(7, 7, 0), (15, 0, 0, 0, 0, 0, 0)
+    rolls = random.Random(1)
+    for model in (drawn(rolls) for _ in range(300)):
+        places = [[rolls.randrange(2**model.order) for _ in "xy"] for _ in range(5)]
+        yield [sentence for place in places for sentence in broken(model, *place)], []
     yield first.window(6, 6, 9, 2**32 - 1), (0, [60], 1)
     yield first.window(7, 0, 2**32 - 1, 8), (0, [], 1)
     yield [first.window(8, 0, 9, 7), first.window(0, 8, 7, 8), first.window(2**32 - 1, 0, 2**32 - 1, 0)], [(0, [], 0)] * 3
@@ -63,7 +123,7 @@ def main():
         if told != expected:
             print(f"model: {told} and not {expected}")
             return 1
-    print(f"model: {number} facts of the sample panels ok")
+    print(f"model: {number} facts of the sample panels and of searches ok")
     return 0
 
 

@@ -36,6 +36,7 @@ static void no_store(void)
     expect_refusal("load", pk_load(NULL, 0, NULL, 0), PK_NO_REGISTER);
     expect_refusal("fill", pk_fill(NULL, 0, NULL, 0), PK_NO_REGISTER);
     expect("ask", pk_ask(NULL, 0, 0, 0), PK_NO_REGISTER, 0, 0);
+    expect_refusal("nearest", pk_nearest(NULL, 0, 0, 0, 1).refusal, PK_NO_REGISTER);
     expect("count", pk_count(NULL, 0, 0, 0, 0, 0), PK_NO_REGISTER, 0, 0);
     expect("list", pk_list(NULL, 0, 0, 0, 0, 0, NULL, 0), PK_NO_REGISTER, 0, 0);
     expect("save", pk_save(NULL, 0, NULL, 0), PK_NO_REGISTER, 0, 0);

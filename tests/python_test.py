@@ -45,6 +45,8 @@ def cases():
         register.mark(x, y)
     yield (register.order, register.side, register.most), (3, 8, 9)
     yield register.ask(1, 1), pkreg.Asked(marked=False, opened=2)
+    yield register.nearest(4, 0, 1), pkreg.Nearest(pixel=(6, 6), distance=40, opened=1, limit=9, complete=False)
+    yield register.nearest(4, 0), pkreg.Nearest(pixel=(1, 0), distance=9, opened=2, limit=9, complete=True)
     yield register.count(4, 4, 7, 7), pkreg.Counted(found=1, opened=1)
     yield register.list(0, 0, 7, 7), pkreg.Listed(codes=[0, 1, 2, 60], opened=2)
     yield (register.count(6, 6, 9, 2**32 - 1), register.list(8, 0, 9, 7)), (pkreg.Counted(found=1, opened=1), pkreg.Listed(codes=[], opened=0))
@@ -57,6 +59,7 @@ def cases():
     yield raised(register.clear, 3, 3), (7, 0, True)
     yield raised(register.ask, 8, 0), (4, 0, True)
     yield [raised(register.count, *window) for window in ((1, 0, 0, 0), (9, 0, 8, 0), (-1, 0, 3, 3))], [(8, 0, True), (8, 0, True), "ValueError"]
+    yield [raised(register.nearest, *search) for search in ((8, 0, 0), (7, 0, 0), (0, 0, 2**32))], [(4, 0, True), (15, 0, True), "ValueError"]
     yield raised(register.load, b""), (10, 0, True)
     yield raised(Register.from_image, image[:9]), (10, 0, True)
     yield [raised(Register.make, *sizes) for sizes in ((0, 3, 9), (3, 17, 9), (3, 3, 65536))], [(1, 0, True)] * 3
@@ -71,6 +74,9 @@ def cases():
     yield filled.save(), image
     filled.fill(())
     yield filled.count(0, 0, 7, 7), pkreg.Counted(found=0, opened=1)
+    yield filled.nearest(4, Whole(0), 1), pkreg.Nearest(pixel=None, distance=0, opened=1, limit=0, complete=True)
+    far = Register.from_pixels(16, 2, [(65535, 65535)]).nearest(0, 0)
+    yield far, pkreg.Nearest(pixel=(65535, 65535), distance=8589672450, opened=1, limit=8589672450, complete=True)
     pixels = Register.from_pixels(3, 3, ((x, y) for x, y in [(6, 6), (0, 1), (Whole(1), 0), (0, 0), (0, 1)]))
     yield (pixels.save() == image, pixels.most), (True, 4)
     yield (Register.from_pixels(3, 3, []).most, Register.from_pixels(3, 3, [(5, 5)], most=9).most), (1, 9)

@@ -52,6 +52,18 @@ def name_each_other(random, subject, model):
             subject.store[at + 9 + 2 * element] = random.choice((tag, tag, 0))
 
 
+def name_next(random, subject, model):
+    """Each slot is a block one level lower than the last, and names the next slot as often as it can, by the same layout: so its parent says of
+    each block what the slot says, and there are more of them than slots."""
+    width, elements = 8 + 10 * (model.k - 1), 5 * (model.k - 1)
+    last = min(model.order, slots_for(model.k, model.most)) - 1
+    for slot in range(last + 1):
+        level = model.order - slot
+        tag = 1 + slot + 1 + (level - 1) * 2**20 if slot < last else 0
+        for i, value in enumerate((level, 0, elements, 0, 0, 0, 0, 0) + (0, tag) * elements):
+            subject.store[8 + slot * width + i] = value
+
+
 def other_sizes(random, subject, model):
     """One of words 0 to 3 is another, beyond its limits or not."""
     at, value = random.choice(NO_REGISTER)
@@ -59,4 +71,4 @@ def other_sizes(random, subject, model):
     subject.store[at] = value if at == 0 or random.random() < 0.5 else within_limits[at]
 
 
-DAMAGES = (spoil, scatter, scatter, copy_slot, name_each_other, other_sizes)
+DAMAGES = (spoil, scatter, scatter, copy_slot, name_each_other, name_next, other_sizes)

@@ -1,6 +1,7 @@
 /*
- * Every call on a stack of 16 KiB above memory that may not be touched, on panels of order 16 whose blocks lie one in the other as deep
- * as they can. It prints how much of the stack was used.
+ * Every call on a stack of 16 KiB, nearest on 1 MiB, above memory that may not be touched, on panels of order 16 whose blocks lie one in the
+ * other as deep as they can; nearest also in the middle of a ring, where it meets more blocks than it has places for at first. It prints
+ * how much of the stack was used.
  */
 #define _GNU_SOURCE
 #include "pkreg.h"
@@ -13,14 +14,16 @@
 #include <ucontext.h>
 #include <unistd.h>
 
-enum { STACK = 16 * 1024, GUARD = 64 * 1024, PAINT = 0xA5, ORDER = 16, MOST = 400, LAST = 65535 };
+enum { SMALL = 16 * 1024, LARGE = 1024 * 1024, GUARD = 4 * LARGE, PAINT = 0xA5, ORDER = 16, MOST = 400, LAST = 65535 };
+enum { MIDDLE = 32768, RADIUS = 500, RING = 4 * RADIUS, UNBOUNDED = 0x7FFFFFFF };
 
-/* Words and bytes for 400 pixels with k = 2, which needs the most of both. */
-static uint32_t store[7208], codes[MOST], listed[MOST];
+/* Words for the ring with k = 2, and bytes for 400 pixels with k = 2, which needs the most. */
+static uint32_t store[36008], codes[MOST], listed[MOST];
 static uint8_t image[4010];
 static size_t words, pixels;
 static uint32_t k;
-static unsigned char *stack;
+static pk_nearest_answer nearest;
+static unsigned char *small, *large;
 static ucontext_t caller, called;
 
 static void expect(int holds, const char *otherwise)
@@ -33,7 +36,7 @@ static void expect(int holds, const char *otherwise)
 
 static void guard_touched(int signal)
 {
-    static const char says[] = "stack: a call needs more than 16 KiB\n";
+    static const char says[] = "stack: a call needs more than 16 KiB, or nearest more than 1 MiB\n";
     (void)signal;
     if (write(2, says, sizeof says - 1) < 0)
         _exit(2);
@@ -59,6 +62,20 @@ static void draw_nested_pixels(void)
             codes[pixels++] = (1u << 2 * level) + i;
 }
 
+/* Pairs of pixels, each of which makes a block, on a circle: all at nearly one distance from the middle, so that many blocks are met before
+   a pixel is found. */
+static void mark_ring(void)
+{
+    uint32_t across, up = RADIUS, i;
+    pk_make(store, words, ORDER, k, RING);
+    for (across = 0; across < RADIUS; across += 2) {
+        while (across * across + up * up > RADIUS * RADIUS)
+            up--;
+        for (i = 0; i < 8; i++)
+            pk_mark(store, words, (i & 2 ? MIDDLE + across : MIDDLE - 2 - across) + (i & 1), i & 4 ? MIDDLE + up : MIDDLE - 1 - up);
+    }
+}
+
 /* What runs on the small stack. Its answers are looked at afterwards, on the other one. */
 static void all_calls(void)
 {
@@ -81,31 +98,43 @@ static void all_calls(void)
     pk_words(k, MOST);
 }
 
-/* Runs the calls on the small stack, and gives the bytes that they used of it. */
-static size_t stack_used(void)
+/* The call that runs on the large stack. */
+static void search_middle(void)
 {
-    size_t untouched = 0;
-    memset(stack, PAINT, STACK);
-    getcontext(&called);
-    called.uc_stack.ss_sp = stack;
-    called.uc_stack.ss_size = STACK;
-    called.uc_link = &caller;
-    makecontext(&called, all_calls, 0);
-    swapcontext(&caller, &called);
-    while (untouched < STACK && stack[untouched] == PAINT)
-        untouched++;
-    return STACK - untouched;
+    nearest = pk_nearest(store, words, MIDDLE, MIDDLE, UNBOUNDED);
 }
 
-static void prepare_stack(void)
+/* Runs the calls on a stack of this size, and gives the bytes that they used of it. */
+static size_t stack_used(void (*calls)(void), unsigned char *stack, size_t size)
+{
+    size_t untouched = 0;
+    memset(stack, PAINT, size);
+    getcontext(&called);
+    called.uc_stack.ss_sp = stack;
+    called.uc_stack.ss_size = size;
+    called.uc_link = &caller;
+    makecontext(&called, calls, 0);
+    swapcontext(&caller, &called);
+    while (untouched < size && stack[untouched] == PAINT)
+        untouched++;
+    return size - untouched;
+}
+
+static unsigned char *guarded_stack(size_t size)
+{
+    unsigned char *all = mmap(NULL, GUARD + size, PROT_NONE, MAP_PRIVATE | MAP_ANONYMOUS, -1, 0);
+    expect(all != MAP_FAILED, "no memory for a stack");
+    expect(mprotect(all + GUARD, size, PROT_READ | PROT_WRITE) == 0, "no memory for a stack");
+    return all + GUARD;
+}
+
+static void prepare_stacks(void)
 {
     static unsigned char other[64 * 1024];
     stack_t handler_stack;
     struct sigaction action;
-    unsigned char *all = mmap(NULL, GUARD + STACK, PROT_NONE, MAP_PRIVATE | MAP_ANONYMOUS, -1, 0);
-    expect(all != MAP_FAILED, "no memory for a stack");
-    stack = all + GUARD;
-    expect(mprotect(stack, STACK, PROT_READ | PROT_WRITE) == 0, "no memory for a stack");
+    small = guarded_stack(SMALL);
+    large = guarded_stack(LARGE);
     memset(&handler_stack, 0, sizeof handler_stack);
     handler_stack.ss_sp = other;
     handler_stack.ss_size = sizeof other;
@@ -115,19 +144,32 @@ static void prepare_stack(void)
     expect(sigaltstack(&handler_stack, NULL) == 0 && sigaction(SIGSEGV, &action, NULL) == 0, "no handler");
 }
 
+static size_t larger(size_t a, size_t b)
+{
+    return a > b ? a : b;
+}
+
 int main(void)
 {
-    size_t used, most_used = 0;
-    prepare_stack();
+    size_t used = 0, searching = 0, among_many;
+    prepare_stacks();
     for (k = 2; k <= 16; k++) {
         words = (size_t)pk_words(k, MOST);
         draw_nested_pixels();
-        used = stack_used();
-        most_used = used > most_used ? used : most_used;
+        used = larger(used, stack_used(all_calls, small, SMALL));
         expect(pk_count(store, words, 0, 0, LAST, LAST).first == pixels, "the pixels are not held");
         expect(pk_ask(store, words, 0, 0).second >= ORDER - 2, "the blocks are not one in the other");
+        searching = larger(searching, stack_used(search_middle, large, LARGE));
+        expect(nearest.refusal == PK_ACCEPTED && nearest.complete, "the nearest pixel is not found");
     }
-    printf("stack: every call at order %d with the deepest trees of k 2 to 16: %u bytes of %d used, ok\n", ORDER, (unsigned)most_used,
-           STACK);
+    k = 2;
+    words = (size_t)pk_words(k, RING);
+    mark_ring();
+    among_many = stack_used(search_middle, large, LARGE);
+    expect(nearest.refusal == PK_ACCEPTED && nearest.complete && nearest.distance < RADIUS * RADIUS, "the nearest pixel of a ring is not found");
+    expect(among_many > LARGE / 2, "a search in a ring did not need the many places");
+    printf("stack: every call at order %d with the deepest trees of k 2 to 16: %u bytes of %d used, ok\n", ORDER, (unsigned)used, SMALL);
+    printf("stack: nearest on these trees: %u bytes; in a ring of %d blocks: %u bytes of %d used, ok\n", (unsigned)searching, RING / 2,
+           (unsigned)among_many, LARGE);
     return 0;
 }

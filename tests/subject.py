@@ -1,6 +1,7 @@
 """The library's calls on one lent store. Each call is held to what is true of every call, whatever the store holds."""
 
 import collections
+import operator
 
 from lent import LIBRARY, words
 from model import slots_for, words_needed
@@ -13,18 +14,31 @@ REFUSALS = {
     "load": (3, 10, 11, 12),
     "fill": (3, 4, 6, 14),
     "ask": (3, 4, 13),
+    "nearest": (3, 4, 13, 15),
     "count": (3, 8, 13),
     "list": (3, 8, 9, 13),
     "save": (3, 9, 13),
     "check": (3,),
 }
+FARTHEST = 2 * 65535**2
 
 
-def largest_values(name, m, k, most):
-    """The largest first and second value of an answer, whatever the store holds."""
+def largest_values(name, numbers, m, k, most):
+    """The largest values of an answer, whatever the store holds."""
     slots = slots_for(k, most)
+    if name == "nearest":
+        return 1, 2**32 - 1, FARTHEST, min(numbers[2], slots), FARTHEST, 1
     of_window = (most, slots)
     return {"ask": (1, m), "count": of_window, "list": of_window, "save": (10 + 5 * (most + slots), 0), "check": (1, 0)}[name]
+
+
+def told_by(name, answer):
+    """An answer of the library in the model's order."""
+    if name in CHANGING:
+        return answer, 0, 0
+    if name == "nearest":
+        return answer.refusal, answer.found, answer.code, answer.distance, answer.opened, answer.limit, answer.complete
+    return answer.refusal, answer.first, answer.second
 
 
 class Difference(Exception):
@@ -53,7 +67,7 @@ class Subject:
         return min(known or len(self.store), len(self.store))
 
     def call(self, name, *numbers, image=None, codes=None, output=None, end=None):
-        """The answer as (refusal, first, second)."""
+        """The answer, as the model gives it."""
         end = self.end() if end is None else end
         sizes = [self.store[at] for at in (1, 2, 3)] if len(self.store) >= 4 else None
         before, untouched = self.store.content(), None if output is None else output.content()
@@ -61,12 +75,12 @@ class Subject:
         for part in (image, codes, output):
             lent += part.arguments if part is not None else ()
         answer = getattr(LIBRARY, "pk_" + name)(*lent)
-        told = (answer, 0, 0) if name in CHANGING else (answer.refusal, answer.first, answer.second)
+        told = told_by(name, answer)
         self.tally[name] += 1
         self.tally[told[0]] += 1
         self._hold(name, numbers, told, before, end)
         if name not in CHANGING and told[0] in (0, 9):
-            self._hold_values(name, told, sizes)
+            self._hold_values(name, numbers, told, sizes)
         if output is not None:
             self._hold_output(name, told, output, untouched)
         return told
@@ -83,12 +97,12 @@ class Subject:
         if refusal == 9:
             expect(f"{what}: second", told[2], 0)
         elif refusal:
-            expect(f"{what}: zeros", told[1:], (0, 0))
+            expect(f"{what}: zeros", any(told[1:]), False)
 
     @staticmethod
-    def _hold_values(name, told, sizes):
-        largest = largest_values(name, *sizes)
-        expect(f"pk_{name} gives {told}: at most {largest}", told[1] <= largest[0] and told[2] <= largest[1], True)
+    def _hold_values(name, numbers, told, sizes):
+        largest = largest_values(name, numbers, *sizes)
+        expect(f"pk_{name}{numbers} gives {told}: at most {largest}", all(map(operator.le, told[1:], largest)), True)
 
     @staticmethod
     def _hold_output(name, told, output, untouched):
