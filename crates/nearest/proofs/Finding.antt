@@ -7,12 +7,13 @@ use mathlib.Core.List.{List}
 use Rattle.searching.specs.NearestPromises.{nearestOn}
 use Rattle.measures.specs.declared.sizes.Layout.{Layout}
 use Rattle.measures.specs.declared.sizes.Sizes.{Sizes}
-use Rattle.measures.specs.Layout.{LaidOut}
+use Rattle.measures.specs.Layout.{LaidOut, LayoutWithin, mostElements}
 use Rattle.measures.specs.Sizes.{panelOf, sizesOf, UsableStore}
 use Rattle.measures.proofs.Usable.{layout-said}
 use Rattle.promises.specs.Answer.{searched}
-use Rattle.promises.specs.Effect.{effect, passed, stopped}
-use Rattle.promises.specs.Calls.{FindsNearest}
+use Rattle.promises.specs.Effect.{effect, Returns, Unchanged, passed, stopped}
+use Rattle.promises.specs.Walk.{Walks, Searches}
+use Rattle.promises.specs.Calls.{slotsIn, FindsNearest}
 use Rattle.promises.proofs.Answers.{yes-no-to}
 use Rattle.promises.proofs.SpoiledRoot.{spoiled-shut}
 use Rattle.answers.specs.declared.Nearest.{Nearest}
@@ -24,7 +25,7 @@ use Rattle.nearest.specs.declared.distance.Place.{Place}
 use Rattle.nearest.specs.declared.search.Searched.{Searched}
 use Rattle.nearest.specs.declared.search.Searched.the-variants.{Known, Full, Damaged}
 use Rattle.nearest.specs.Place.{PlaceOf}
-use Rattle.nearest.specs.Searches.{SearchMeets, manyPlaces, settledAs}
+use Rattle.nearest.specs.Searches.{SearchMeets, manyPlaces, neverFull, answerOf}
 
 -- a search that is known did not find the words damaged
 known-not-damaged : {n : Nearest} → Known n ≡ Damaged → ⊥
@@ -38,16 +39,52 @@ known-not-damaged e = let z : _≡_ {A = ℕ} 0 1 = ap isDamaged e in absurd (om
 abbrev Finds : List ℕ → ℕ → ℕ → Searching → Type 0
 Finds words code budget r = FindsNearest words code budget (effect (searchAnswer r) words words)
 
+-- and what it says where there is some budget
+abbrev Walked : List ℕ → ℕ → ℕ → Searching → Type 0
+Walked words code budget r =
+    Walks words (Searches (min budget (slotsIn words))) Unchanged (λ set. Returns (searched (nearestOn (panelOf (sizesOf words)) set code budget))) (effect (searchAnswer r) words words)
+
 -- 15
 pub no-budget : (words : List ℕ) (code : ℕ) {budget : ℕ} → budget ≡ 0 → Finds words code budget (Refused NoBudget)
 no-budget words code z = stopped (λ some. omega (arith, some, z)) (record { is = refl; same = refl })
 
-module _ {words : List ℕ} {sizes : Sizes} {layout : Layout} {place : Place} {code budget : ℕ} (usable : UsableStore words) (said : sizes ≡ sizesOf words) (laid : LaidOut sizes layout)
-    (at : PlaceOf code place) (some : 1 ≤ budget) where
-  module _ {keyCount tagCount : ℕ} where
-    pub known-finds : {n : Nearest} → SearchMeets words layout place budget keyCount tagCount (Known n) → Finds words code budget (Ended n)
-    known-finds {n} m =
-        passed some (record {
+module _ {words : List ℕ} {layout : Layout} {place : Place} {budget : ℕ} where
+  -- how many places there were matters only where they were too few
+  pub known-anyhow : {keyCount tagCount keyCount′ tagCount′ : ℕ} {n : Nearest} → SearchMeets words layout place budget keyCount tagCount (Known n) → SearchMeets words layout place budget keyCount′ tagCount′ (Known n)
+  known-anyhow m = record { right = m .right; closed = m .closed; opened-to = m .opened-to }
+
+  pub damaged-anyhow : {keyCount tagCount keyCount′ tagCount′ : ℕ} → SearchMeets words layout place budget keyCount tagCount Damaged → SearchMeets words layout place budget keyCount′ tagCount′ Damaged
+  damaged-anyhow m = record { right = m .right; closed = m .closed; opened-to = tt }
+
+  -- as many places as the slots need are enough on a sound store
+  pub full-damaged : {places keyCount tagCount : ℕ} → SearchMeets words layout place budget places places Full → layout .slots + mostElements ≤ places → SearchMeets words layout place budget keyCount tagCount Damaged
+  full-damaged m few = record {
+    right = λ set holds. ⊎-elim (λ h. omega (arith, h, few)) (λ h. omega (arith, h, few)) (m .right set holds);
+    closed = λ some shut. refl;
+    opened-to = tt;
+  }
+
+  module _ (within : LayoutWithin layout) where
+    pub never-full : {r : Searched} → SearchMeets words layout place budget manyPlaces manyPlaces r → SearchMeets words layout place budget manyPlaces manyPlaces (neverFull r)
+    never-full {r} = go r
+      where
+        go : (r : Searched) → SearchMeets words layout place budget manyPlaces manyPlaces r → SearchMeets words layout place budget manyPlaces manyPlaces (neverFull r)
+        go (Known n) m = m
+        go Full m = full-damaged m (omega (arith, within .slots-to))
+        go Damaged m = m
+
+    -- what such a search says is what nearest answers
+    pub finds : {sizes : Sizes} {code : ℕ} {r : Searched} → UsableStore words → sizes ≡ sizesOf words → LaidOut sizes layout → PlaceOf code place → 1 ≤ budget
+        → SearchMeets words layout place budget manyPlaces manyPlaces r → Finds words code budget (answerOf r)
+    finds {sizes} {code} {r} usable said laid at some m = passed some (go r m)
+      where
+        refuses : SearchMeets words layout place budget manyPlaces manyPlaces Damaged → Walked words code budget (Refused StoreDamaged)
+        refuses d = record { ends = inr (refl, refl); spoiled = λ s. refl; sound = λ set holds. absurd (d .right set holds) }
+
+        go : (r : Searched) → SearchMeets words layout place budget manyPlaces manyPlaces r → Walked words code budget (answerOf r)
+        go Full m = refuses (full-damaged m (omega (arith, within .slots-to)))
+        go Damaged m = refuses m
+        go (Known n) m = record {
           ends = inl (record { accepted = refl; found-to = yes-no-to (n .found); opened-to = omega (arith, m .opened-to .0, m .opened-to .1, ap (λ (l : Layout). l .slots) (layout-said words said laid)) });
           spoiled = λ s. absurd (known-not-damaged (m .closed some (spoiled-shut words usable s)));
           sound = λ set holds.
@@ -55,22 +92,4 @@ module _ {words : List ℕ} {sizes : Sizes} {layout : Layout} {place : Place} {c
                 is = ap (λ (n : Nearest). searched (valuesOf n)) (m .right set holds) ∙ ap (λ (p : ℕ). searched (nearestOn (panelOf (sizesOf words)) set p budget)) (at .code-is);
                 same = refl;
               };
-        })
-
-    pub damaged-finds : SearchMeets words layout place budget keyCount tagCount Damaged → Finds words code budget (Refused StoreDamaged)
-    damaged-finds m = passed some (record { ends = inr (refl, refl); spoiled = λ s. refl; sound = λ set holds. absurd (m .right set holds) })
-
-  -- many places are enough on a sound store
-  pub settled-finds : {r : Searched} → SearchMeets words layout place budget manyPlaces manyPlaces r → Finds words code budget (settledAs r)
-  settled-finds {r} = go r
-    where
-      go : (r : Searched) → SearchMeets words layout place budget manyPlaces manyPlaces r → Finds words code budget (settledAs r)
-      go (Known n) m = known-finds m
-      go Damaged m = damaged-finds m
-      go Full m =
-          let few = laid .within .slots-to in
-          passed some (record {
-            ends = inr (refl, refl);
-            spoiled = λ s. refl;
-            sound = λ set holds. ⊎-elim (λ h. absurd (omega (arith, h, few))) (λ h. absurd (omega (arith, h, few))) (m .right set holds);
-          })
+        }

@@ -30,16 +30,21 @@ values n = record { found = n .isFound; code = n .code; distance = n .distance; 
 
 -- the places for the blocks met and not opened at one time
 abbrev pub fewPlaces : ℕ
-fewPlaces = 512
+fewPlaces = 128
 
 abbrev pub manyPlaces : ℕ
 manyPlaces = mostSlots + mostElements
 
 -- where many places are too few, the words are damaged
-abbrev pub settledAs : Searched → Searching
-settledAs (Known nearest) = Ended nearest
-settledAs Full = Refused StoreDamaged
-settledAs Damaged = Refused StoreDamaged
+abbrev pub neverFull : Searched → Searched
+neverFull (Known nearest) = Known nearest
+neverFull Full = Damaged
+neverFull Damaged = Damaged
+
+abbrev pub answerOf : Searched → Searching
+answerOf (Known nearest) = Ended nearest
+answerOf Full = Refused StoreDamaged
+answerOf Damaged = Refused StoreDamaged
 
 -- the zeros where nothing was found
 pub record DistanceShown (distance r : ℕ) : Type 0 where

@@ -6,7 +6,7 @@ ghost use Rattle.promises.specs.Calls.{FindsNearest};
 ghost use Rattle.promises.specs.Effect.{effect};
 ghost use Rattle.answers.specs.Answer.{searchAnswer};
 ghost use Rattle.nearest.specs.Place.{OnGrid};
-ghost use Rattle.nearest.specs.Searches.{SearchMeets, fewPlaces, manyPlaces, settledAs};
+ghost use Rattle.nearest.specs.Searches.{SearchMeets, fewPlaces, manyPlaces, neverFull, answerOf};
 use crate::distance::Place;
 use crate::distance::place_of;
 use crate::search::Searched;
@@ -20,7 +20,7 @@ use measures::sizes::layout_of;
 use measures::slots::MOST_ELEMENTS;
 
 // Places for the blocks met and not opened at one time: nearly every search has fewer.
-const FEW_PLACES: usize = 512;
+const FEW_PLACES: usize = 128;
 
 // No sound store has more blocks than 01's largest N, and before a block is opened there is room for all of its elements.
 const MANY_PLACES: usize = LARGEST_MOST as usize + MOST_ELEMENTS;
@@ -79,9 +79,48 @@ fn search_among_many(
     search(store, sizes, layout, place, budget, &mut keys, &mut tags)
 }
 
-// Many places are too few on damaged words only.
-fn settled(searched: Searched) -> Searching
-    ensures { λ r. ⌜ r ≡ settledAs searched ⌝ }
+// As many places as there can be slots are too few on damaged words only.
+fn never_full(searched: Searched) -> Searched
+    ensures { λ r. ⌜ r ≡ neverFull searched ⌝ }
+{
+    match searched {
+        Searched::Known(nearest) => Searched::Known(nearest),
+        Searched::Full => Searched::Damaged,
+        Searched::Damaged => Searched::Damaged,
+    }
+}
+
+// The search among at least so many places, and again among as many as the slots need where these are too few. It calls itself, so that the compiler
+// keeps the many places out of every search's frame, where they would cost more than the search.
+fn search_within(
+    store: &[u32],
+    sizes: Sizes,
+    layout: Layout,
+    place: Place,
+    budget: u32,
+    places: usize,
+) -> Searched
+    requires { ⌜ ((UsableStore (now store) × (sizes ≡ sizesOf (now store))) × LaidOut sizes layout × LayoutFits layout (now store)) × OnGrid place ⌝ }
+    ensures { λ r. ⌜ SearchMeets (now (store .entry)) layout place budget manyPlaces manyPlaces r ⌝ }
+{
+    if FEW_PLACES < places {
+        return search_among_many(store, sizes, layout, place, budget);
+    }
+    match search_among_few(store, sizes, layout, place, budget) {
+        Searched::Known(nearest) => Searched::Known(nearest),
+        Searched::Full => {
+            let needed = layout.slots + MOST_ELEMENTS;
+            if needed <= FEW_PLACES {
+                return Searched::Damaged;
+            }
+            never_full(search_within(store, sizes, layout, place, budget, needed))
+        }
+        Searched::Damaged => Searched::Damaged,
+    }
+}
+
+fn answer_of(searched: Searched) -> Searching
+    ensures { λ r. ⌜ r ≡ answerOf searched ⌝ }
 {
     match searched {
         Searched::Known(nearest) => Searching::Ended(nearest),
@@ -100,9 +139,5 @@ pub fn find_nearest(store: &[u32], sizes: Sizes, code: u32, budget: u32) -> Sear
     }
     let layout = layout_of(sizes);
     let place = place_of(code);
-    match search_among_few(store, sizes, layout, place, budget) {
-        Searched::Known(nearest) => Searching::Ended(nearest),
-        Searched::Full => settled(search_among_many(store, sizes, layout, place, budget)),
-        Searched::Damaged => Searching::Refused(Refusal::StoreDamaged),
-    }
+    answer_of(search_within(store, sizes, layout, place, budget, FEW_PLACES))
 }

@@ -4,7 +4,9 @@ ghost use lib.ListN.{length};
 use crate::entries::print_image;
 use crate::printing::print_asking;
 use crate::printing::print_counting;
+use crate::printing::print_number;
 use crate::printing::print_outcome;
+use crate::printing::print_searching;
 use answers::Listing;
 use answers::Saving;
 use measures::slots::wide;
@@ -16,6 +18,7 @@ mod printing;
 
 fn main() {
     first_panel();
+    no_pixel_shown();
     slot_handed_on();
     full_root();
     smallest_panel();
@@ -88,6 +91,7 @@ fn first_panel() {
     io::write_all(1, b"codes 0, 1, 2, 60:");
     made(&mut store, 3, 3, 9, &codes);
     first_panel_asked(&store);
+    first_panel_searched(&store);
     first_panel_cleared(&mut store);
 }
 
@@ -101,10 +105,31 @@ fn first_panel_asked(store: &[u32]) {
     list(store);
     io::write_all(1, b"\nask x = 8:");
     print_asking(register::ask(store, 8, 0));
+    io::write_all(1, b"\n");
+}
+
+// A rough search, then a complete one; a block too far to be opened; a limit that the next block reaches; no budget.
+fn first_panel_searched(store: &[u32]) {
+    nearest(store, 1, 1, 1);
+    nearest(store, 1, 1, 2);
+    nearest(store, 1, 1, 9);
+    nearest(store, 7, 7, 9);
+    nearest(store, 4, 0, 1);
+    nearest(store, 4, 0, 2);
+    nearest(store, 4, 0, 0);
+}
+
+fn nearest(store: &[u32], x: u32, y: u32, budget: u32) {
+    print_number(b"nearest to (", x as u64);
+    print_number(b", ", y as u64);
+    print_number(b"), budget ", budget as u64);
+    io::write_all(1, b":");
+    print_searching(register::nearest(store, x, y, budget));
+    io::write_all(1, b"\n");
 }
 
 fn first_panel_cleared(store: &mut [u32]) {
-    io::write_all(1, b"\nclear code 1:");
+    io::write_all(1, b"clear code 1:");
     clear(store, 1);
     print(store);
 }
@@ -131,6 +156,18 @@ fn print_word(words: &[u32], at: usize) {
     }
     io::write_all(1, b" ");
     io::print_decimal(1, wide(words[at]) as u64);
+}
+
+// Nothing marked; then a block that the root alone doesn't look into.
+fn no_pixel_shown() {
+    let mut store = words_148();
+    let codes = [0u32, 1, 2];
+    io::write_all(1, b"no codes:");
+    made(&mut store, 3, 3, 9, &codes[..0]);
+    nearest(&store, 4, 0, 1);
+    io::write_all(1, b"codes 0, 1, 2:");
+    made(&mut store, 3, 3, 9, &codes);
+    nearest(&store, 4, 0, 1);
 }
 
 // N = 4 has two slots: the block that turns underfull hands its slot to the one that is formed in it.

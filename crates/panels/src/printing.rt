@@ -1,9 +1,12 @@
 // The register's answers, printed; each function answers 01's number of the refusal, 0 for none.
 ghost use mathlib.Core.Path.{_≡_};
-ghost use Rattle.answers.specs.Answer.{answer, askAnswer, countAnswer};
+ghost use Rattle.answers.specs.Answer.{answer, askAnswer, countAnswer, numberOf, searchAnswer};
 use answers::Asking;
 use answers::Counting;
+use answers::Nearest;
 use answers::Outcome;
+use answers::Refusal;
+use answers::Searching;
 use answers::number_of;
 use answers::refusal_of;
 
@@ -14,6 +17,19 @@ pub fn print_outcome(outcome: Outcome) -> u32
     io::write_all(1, b" ");
     io::print_decimal(1, refusal as u64);
     refusal
+}
+
+fn print_refusal(refusal: Refusal) -> u32
+    ensures { λ r. ⌜ r ≡ numberOf refusal ⌝ }
+{
+    let number = number_of(refusal);
+    print_number(b" refused ", number as u64);
+    number
+}
+
+pub fn print_number(title: &[u8], number: u64) {
+    io::write_all(1, title);
+    io::print_decimal(1, number);
 }
 
 pub fn print_asking(asking: Asking) -> u32
@@ -29,12 +45,7 @@ pub fn print_asking(asking: Asking) -> u32
             io::print_decimal(1, opened as u64);
             0
         }
-        Asking::Refused(refusal) => {
-            let number = number_of(refusal);
-            io::write_all(1, b" refused ");
-            io::print_decimal(1, number as u64);
-            number
-        }
+        Asking::Refused(refusal) => print_refusal(refusal),
     }
 }
 
@@ -43,17 +54,36 @@ pub fn print_counting(counting: Counting) -> u32
 {
     match counting {
         Counting::Found { found, opened } => {
-            io::write_all(1, b" found ");
-            io::print_decimal(1, found as u64);
-            io::write_all(1, b", opened ");
-            io::print_decimal(1, opened as u64);
+            print_number(b" found ", found as u64);
+            print_number(b", opened ", opened as u64);
             0
         }
-        Counting::Refused(refusal) => {
-            let number = number_of(refusal);
-            io::write_all(1, b" refused ");
-            io::print_decimal(1, number as u64);
-            number
+        Counting::Refused(refusal) => print_refusal(refusal),
+    }
+}
+
+pub fn print_searching(searching: Searching) -> u32
+    ensures { λ r. ⌜ r ≡ searchAnswer searching .refusal ⌝ }
+{
+    match searching {
+        Searching::Ended(nearest) => {
+            print_nearest(nearest);
+            0
         }
+        Searching::Refused(refusal) => print_refusal(refusal),
+    }
+}
+
+fn print_nearest(nearest: Nearest) {
+    if nearest.found {
+        print_number(b" ", nearest.code as u64);
+        print_number(b" at ", nearest.distance);
+    } else {
+        io::write_all(1, b" none");
+    }
+    print_number(b", opened ", nearest.opened as u64);
+    print_number(b", limit ", nearest.limit);
+    if nearest.complete {
+        io::write_all(1, b", complete");
     }
 }

@@ -1,5 +1,5 @@
 // 01 "Blocks".
-ghost use Prim.Native.Nat.{_≤_};
+ghost use Prim.Native.Nat.{_≤_, _<_};
 use crate::codes::size_of;
 
 // A panel of order m with its k. N is the most pixels that its register may hold, words the length that the store needs; places is five for each code.
@@ -35,8 +35,14 @@ pub fn level_at(place: u16) -> u32 {
     4 - ((place % 5) as u32)
 }
 
+pub fn place_of(level: u32, code: u32) -> usize
+    ensures { λ r. ⌜ r < 1280 ⌝ }
+{
+    (5 * (code % 256) + (4 - level % 5)) as usize
+}
+
 // How many elements a block has: those of a level 0 block are its pixel if marked, else none; those of a larger block are gathered from its four quarters.
-fn elements(set: &Set, k: u8, level: u32, code: u32) -> u32 {
+pub fn elements(set: &Set, k: u8, level: u32, code: u32) -> u32 {
     if level < 1 {
         return is_marked(set, code) as u32;
     }

@@ -9,6 +9,8 @@ use crate::codes::side_of;
 use crate::codes::size_of;
 use crate::images;
 use crate::images::Bytes;
+use crate::search;
+use crate::search::Search;
 use crate::window;
 use crate::window::Window;
 
@@ -101,6 +103,18 @@ pub fn ask(panel: Panel, length: usize, x: u32, y: u32, set: &Set) -> Answer {
         return answered(refusal, 0, 0);
     }
     seen(panel, window::around(x, y), set)
+}
+
+// 02, P5: refused as ask is, then without a budget.
+pub fn nearest(panel: Panel, length: usize, x: u32, y: u32, budget: u32, set: &Set) -> Search {
+    let refusal = pixel_refusal(panel, length, x, y);
+    if refusal != 0 {
+        return search::refused(refusal);
+    }
+    if budget < 1 {
+        return search::refused(15);
+    }
+    search::run(panel, set, code_of(x, y), budget)
 }
 
 pub fn count(panel: Panel, length: usize, window: Window, set: &Set) -> Answer {

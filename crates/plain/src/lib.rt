@@ -3,4 +3,5 @@ pub mod blocks;
 pub mod calls;
 pub mod codes;
 pub mod images;
+pub mod search;
 pub mod window;

@@ -17,13 +17,16 @@ fn below_16(seed: u32, place: u32) -> u32
     scrambled(std::num::wrapping_add_u32(scrambled(seed), place)) % 16
 }
 
-// The call's number: mark more often than clear, then fill, ask, list, save and load.
+// The call's number: mark more often than clear, then nearest, fill, ask, list, save and load.
 fn number_drawn(seed: u32, call: u32) -> u32
-    ensures { λ r. ⌜ r ≤ 7 ⌝ }
+    ensures { λ r. ⌜ r ≤ 8 ⌝ }
 {
     let d = below_16(seed, call);
-    if d < 8 {
+    if d < 7 {
         return 0;
+    }
+    if d == 7 {
+        return 8;
     }
     if d == 8 {
         return 7;

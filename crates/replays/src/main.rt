@@ -160,9 +160,9 @@ fn word_of_mark(codes: &[u32], found: usize, i: usize) -> u32 {
     0
 }
 
-// 8 is check, which leaves everything.
+// 9 is check, which leaves everything.
 fn check_word(part: usize) -> u32 {
-    if part == 0 { 8 } else { 0 }
+    if part == 0 { 9 } else { 0 }
 }
 
 // Clears the pixel that the survivors' script marks first, if there is one.

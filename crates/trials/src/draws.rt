@@ -94,6 +94,18 @@ pub fn number_drawn(seed: u32, place: u32, right: u32, below: u32, above: u32) -
     right
 }
 
+// None, a few, or more than any register here has blocks.
+pub fn budget_drawn(seed: u32) -> u32 {
+    let kind = draw(seed, 21, 16);
+    if kind < 12 {
+        return kind / 2;
+    }
+    if kind < 14 {
+        return draw(seed, 22, 100);
+    }
+    4294967295
+}
+
 // From none to one more than the panel has, if there are so many.
 pub fn code_number_drawn(seed: u32, panel: Panel, all: usize) -> usize
     ensures { λ r. ⌜ r ≤ all ⌝ }

@@ -11,7 +11,7 @@ mod report;
 mod steps;
 
 fn main() {
-    let mut totals = [0u32; 16];
+    let mut totals = [0u32; 17];
     let mut image = [0u8; 2048];
     for history in 0..500u32 {
         if !run_history(history, &mut image, &mut totals) {

@@ -4,14 +4,32 @@ use answers::Checking;
 use answers::Counting;
 use answers::Listing;
 use answers::Saving;
+use answers::Searching;
 use answers::number_of;
 use plain::calls::Answer;
 use plain::calls::answered;
+use plain::search::Search;
+use plain::search::refused;
 
 pub fn of_asking(asking: Asking) -> Answer {
     match asking {
         Asking::Answered { marked, opened } => answered(0, marked as usize, opened),
         Asking::Refused(refusal) => answered(number_of(refusal), 0, 0),
+    }
+}
+
+pub fn of_searching(searching: Searching) -> Search {
+    match searching {
+        Searching::Ended(nearest) => Search {
+            refusal: 0,
+            found: nearest.found,
+            code: nearest.code,
+            distance: nearest.distance,
+            opened: nearest.opened,
+            limit: nearest.limit,
+            complete: nearest.complete,
+        },
+        Searching::Refused(refusal) => refused(number_of(refusal)),
     }
 }
 

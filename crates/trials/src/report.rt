@@ -5,12 +5,12 @@ use answers::Checking;
 use plain::calls::Answer;
 
 // How often each refusal was given, none as 0; then how many calls there were.
-pub type Totals = [u32; 16];
+pub type Totals = [u32; 17];
 
 fn add_one(totals: &mut Totals, at: u32) {
-    let i = (at % 15) as usize;
+    let i = (at % 16) as usize;
     totals[i] = std::num::wrapping_add_u32(totals[i], 1);
-    totals[15] = std::num::wrapping_add_u32(totals[15], 1);
+    totals[16] = std::num::wrapping_add_u32(totals[16], 1);
 }
 
 fn is_same(a: Answer, b: Answer) -> bool {
@@ -47,8 +47,8 @@ fn print_call(history: u32, number: u32, call: u32) {
     print(b"history ", history);
     print(b", call ", number);
     print_part(
-        b" mark  clear ask   count list  save  load  fill  make  check",
-        (6 * (call % 10)) as usize,
+        b" mark    clear   ask     count   list    nearest save    load    fill    make    check  ",
+        (8 * (call % 11)) as usize,
     );
 }
 
@@ -73,19 +73,19 @@ fn print_answer(title: &[u8], answer: Answer) {
     io::print_decimal(1, answer.second as u64);
 }
 
-// The call's name is six of these bytes.
+// The call's name is eight of these bytes.
 fn print_part(text: &[u8], start: usize)
-    requires { ⌜ start ≤ 54 ⌝ }
+    requires { ⌜ start ≤ 80 ⌝ }
 {
-    if start + 6 <= text.len() {
-        io::write_all(1, &text[start..start + 6]);
+    if start + 8 <= text.len() {
+        io::write_all(1, &text[start..start + 8]);
     }
 }
 
 pub fn print_totals(totals: &Totals) {
-    print(b"500 histories, calls: ", totals[15]);
+    print(b"500 histories, calls: ", totals[16]);
     io::write_all(1, b"\nanswers");
-    for refusal in 0..15u32 {
+    for refusal in 0..16u32 {
         print(b" ", refusal);
         print(b":", totals[refusal as usize]);
     }

@@ -9,10 +9,11 @@ use plain::calls::Answer;
 use plain::calls::answered;
 use plain::images;
 use plain::images::Bytes;
+use plain::search::Search;
 use plain::window::Window;
 use plain::window::is_list;
 
-// Both answers to a call, and whether what was written is right too.
+// Both answers to a call, and whether what was written is right too, or a search's other values are.
 pub struct Step {
     pub got: Answer,
     pub want: Answer,
@@ -31,7 +32,7 @@ fn refusals(got: u32, want: u32) -> Step {
     both(answered(got, 0, 0), answered(want, 0, 0), true)
 }
 
-// The calls by their numbers: mark, clear, ask, count, list, save, load, fill, make, check. In each stretch of a history one of the first two prevails.
+// The calls by their numbers: mark, clear, ask, count, list, nearest, save, load, fill, make, check. In each stretch of a history one of the first two prevails.
 const CALLS: [u32; 32] = [
     0,
     0,
@@ -45,12 +46,10 @@ const CALLS: [u32; 32] = [
     0,
     0,
     0,
-    0,
     1,
     1,
     1,
     1,
-    2,
     2,
     2,
     3,
@@ -64,7 +63,9 @@ const CALLS: [u32; 32] = [
     6,
     6,
     7,
+    7,
     8,
+    9,
 ];
 
 pub fn call_drawn(seed: u32, clearing: u32) -> u32 {
@@ -72,10 +73,10 @@ pub fn call_drawn(seed: u32, clearing: u32) -> u32 {
     if call < 2 {
         return call ^ clearing;
     }
-    if call < 8 {
+    if call < 9 {
         return call;
     }
-    8 + draws::draw(seed, 15, 2)
+    9 + draws::draw(seed, 15, 2)
 }
 
 // The store is lent whole; one time in 16 just as long as needed or one word shorter.
@@ -99,14 +100,14 @@ fn run_on(
     set: &mut Set,
     image: &mut Bytes,
 ) -> Step {
-    if call < 5 {
+    if call < 6 {
         return on_window(call, seed, panel, store, set);
     }
     match call {
-        5 => save(seed, panel, store, set, image),
-        6 => load(seed, panel, store, set, image),
-        7 => fill(seed, panel, store, set),
-        8 => make(seed, panel, store, set),
+        6 => save(seed, panel, store, set, image),
+        7 => load(seed, panel, store, set, image),
+        8 => fill(seed, panel, store, set),
+        9 => make(seed, panel, store, set),
         _ => check(panel, store),
     }
 }
@@ -118,7 +119,8 @@ fn on_window(call: u32, seed: u32, panel: Panel, store: &mut [u32], set: &mut Se
         1 => clear(panel, window, store, set),
         2 => ask(panel, window, store, set),
         3 => count(panel, window, store, set),
-        _ => list(seed, panel, window, store, set),
+        4 => list(seed, panel, window, store, set),
+        _ => nearest(seed, panel, window, store, set),
     }
 }
 
@@ -172,6 +174,29 @@ fn list(seed: u32, panel: Panel, window: Window, store: &[u32], set: &Set) -> St
     ));
     let want = calls::with_output(counted, room);
     both(got, want, is_list(set, window, want.refusal == 0, &output))
+}
+
+fn nearest(seed: u32, panel: Panel, window: Window, store: &[u32], set: &Set) -> Step {
+    let budget = draws::budget_drawn(seed);
+    let got = numbers::of_searching(register::nearest(store, window.x0, window.y0, budget));
+    let want = calls::nearest(panel, store.len(), window.x0, window.y0, budget, set);
+    both(
+        pixel_and_opened(got),
+        pixel_and_opened(want),
+        same_values(got, want),
+    )
+}
+
+fn pixel_and_opened(search: Search) -> Answer {
+    answered(search.refusal, search.code as usize, search.opened as usize)
+}
+
+// Whether the other four values are the same.
+fn same_values(got: Search, want: Search) -> bool {
+    (got.found == want.found)
+        & (got.distance == want.distance)
+        & (got.limit == want.limit)
+        & (got.complete == want.complete)
 }
 
 // An image that was saved is kept for later loads, also by other histories.

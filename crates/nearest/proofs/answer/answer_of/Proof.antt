@@ -1,8 +1,8 @@
-use Rattle.nearest.proofs.answer.settled.Statement.{statement}
-use Rattle.nearest.proofs.answer.settled.Tie as tie
+use Rattle.nearest.proofs.answer.answer_of.Statement.{statement}
+use Rattle.nearest.proofs.answer.answer_of.Tie as tie
 
-pub settled-spec : {M : Type 1} → statement M
-settled-spec =
+pub answer-of-spec : {M : Type 1} → statement M
+answer-of-spec =
     tie.close
     (tie.spec
     (λ c. c .match .keys1)
