@@ -3,9 +3,10 @@ use Prim.Native.Nat.{ℕ}
 use native.Mathlib.Omega.{arith}
 use mathlib.Core.List.{List}
 use Rattle.measures.proofs.Bounds.{slot-count-bounded}
+use Rattle.store.proofs.Held.{held-blocks}
 use Rattle.promises.specs.Answer.{Answer}
 use Rattle.promises.specs.Calls.{NearestMeets}
-use Rattle.promises.proofs.Nearest.{held-blocks, nearest-says, nearest-whole}
+use Rattle.promises.proofs.Nearest.{nearest-says, nearest-whole}
 use Rattle.clients.specs.Known.{WholeSearch}
 
 pub all-searched : {words : List ℕ} {x y : ℕ} {a : Answer} → NearestMeets words x y 4294967295 a → WholeSearch words x y a

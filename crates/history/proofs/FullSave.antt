@@ -15,7 +15,8 @@ use Rattle.store.specs.Sound.{Holds}
 use Rattle.store.proofs.SoundView.{sound-view}
 use Rattle.walks.proofs.RootWalk.{heldTree}
 use Rattle.image.specs.Held.{mostBytes}
-use Rattle.saving.proofs.SavedImage.{tree-of-held, entries-counted}
+use Rattle.store.proofs.Held.{tree-of-held}
+use Rattle.saving.proofs.SavedImage.{entries-counted}
 use Rattle.promises.specs.Answer.{accepted}
 use Rattle.promises.specs.Effect.{passed}
 use Rattle.promises.specs.Walk.{Spoiled}

@@ -8,15 +8,14 @@ use lib.ListN.{length, take, drop}
 use lib.Seq.{take-at}
 use Rattle.pktree.specs.PixelSet.{member, PixelSet}
 use Rattle.pktree.specs.Elements.{Forest, size, gather, unlabelled}
-use Rattle.pktree.specs.Tree.{Instantiated, tree, pixels, blockOf, blocks}
+use Rattle.pktree.specs.Tree.{Instantiated, tree, blockOf, blocks}
 use Rattle.pktree.specs.Image.{image}
-use Rattle.pktree.proofs.Pixels.{pixels-of-tree-are-set}
 use Rattle.pktree.proofs.InTree.{in-tree-exactly-instantiated}
 use Rattle.pktree.proofs.Sizes as sizes-of-blocks
 use Rattle.pktree.proofs.BlockNumber as number
 use Rattle.pktree.proofs.Images.{image-determines-set}
-use Rattle.pktree.proofs.Unlabelled.{pixels-unlabelled}
 use Rattle.measures.specs.declared.sizes.Sizes.{Sizes}
+use Rattle.store.proofs.Held.{tree-of-held, held-set}
 use Rattle.measures.specs.Sizes.{panelOf, sizesOf, ValidSizes}
 use Rattle.answers.specs.declared.Saving.{Saving}
 use Rattle.answers.specs.declared.Saving.the-variants.{Saved}
@@ -39,12 +38,10 @@ module _ (sizes : Sizes) (set words : List ℕ) (h : InStep sizes set words) whe
   valid = subst ValidSizes (h .sized) (h .holds .sound .usable .valid)
 
   held-tree : unlabelled (h .holds .placed) ≡ tree (panelOf sizes) (member set)
-  held-tree =
-      h .holds .sound .is-tree
-      ∙ ap₂ (λ (z : Sizes) (l : List ℕ). tree (panelOf z) (member l)) (h .sized) (h .holds .set-is)
+  held-tree = tree-of-held (h .holds) ∙ ap (λ (z : Sizes). tree (panelOf z) (member set)) (h .sized)
 
   is-set : PixelSet (panelOf sizes) set
-  is-set = subst (PixelSet (panelOf sizes)) (ap pixels (sym held-tree) ∙ pixels-unlabelled (h .holds .placed) ∙ h .holds .set-is) (pixels-of-tree-are-set (panelOf sizes) (member set))
+  is-set = subst (λ (z : Sizes). PixelSet (panelOf z) set) (h .sized) (held-set (h .holds))
 
   -- what save meets, of these sizes
   image-is : image (panelOf (sizesOf words)) set ≡ image (panelOf sizes) set

@@ -11,6 +11,10 @@ use Rattle.promises.specs.Survivors.{Call, mark, clear, ask, count, list, save,
 abbrev pub zeros : ℕ → ℕ → List ℕ
 zeros number size = take (number % (size + 1)) (replicate size 0)
 
+-- nearest, or check for every number that is no other call's
+abbrev pub lastCallOf : Encoded → Call
+lastCallOf call = cond (eqb (call .number) 8) (nearest (call .a) (call .b) (call .c)) check
+
 abbrev pub callOf : List ℕ → List ℕ → Encoded → Call
 callOf images codes call =
     cond (eqb (call .number) 0) (mark (call .a) (call .b))
@@ -20,8 +24,7 @@ callOf images codes call =
     (cond (eqb (call .number) 4) (list (call .a) (call .b) (call .c) (call .d) (zeros (call .e) 16))
     (cond (eqb (call .number) 5) (save (zeros (call .e) 64))
     (cond (eqb (call .number) 6) (load (take (call .b) (drop (call .a) images)))
-    (cond (eqb (call .number) 7) (fill (take (call .b) (drop (call .a) codes)))
-    (cond (eqb (call .number) 8) (nearest (call .a) (call .b) (call .c)) check))))))))
+    (cond (eqb (call .number) 7) (fill (take (call .b) (drop (call .a) codes))) (lastCallOf call))))))))
 
 abbrev pub encodedAt : List ℕ → ℕ → Encoded
 encodedAt script i = record {

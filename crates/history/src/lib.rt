@@ -4,7 +4,7 @@ ghost use mathlib.Core.Path.{_≡_};
 ghost use lib.ListN.{length, take, drop};
 ghost use Rattle.promises.specs.Survivors.{list, save, load, fill};
 ghost use Rattle.history.specs.Run.{Step, Run};
-ghost use Rattle.history.specs.Script.{zeros, callOf, encodedAt, callsOf};
+ghost use Rattle.history.specs.Script.{zeros, lastCallOf, callOf, encodedAt, callsOf};
 ghost use Rattle.history.specs.Whole.{RunMeets, SampleRan};
 use image::parts::part_of;
 use measures::slots::wide;
@@ -64,6 +64,17 @@ fn fill_step(store: &mut [u32], codes: &[u32], a: u32, b: u32)
     register::fill(store, words_from(codes, wide(a), wide(b)));
 }
 
+// nearest, or check for every number that is no other call's.
+fn last_step(store: &[u32], call: Encoded)
+    ensures { λ _. ⌜ Step (lastCallOf call) (now (store .entry)) (now (store .entry)) ⌝ }
+{
+    if call.number == 8 {
+        register::nearest(store, call.a, call.b, call.c);
+        return;
+    }
+    register::check(store);
+}
+
 // One call, run by calling it.
 fn step(store: &mut [u32], images: &[u8], codes: &[u32], call: Encoded)
     ensures { λ _. ⌜ Step (callOf (now (images .entry)) (now (codes .entry)) call) (now (store .entry)) (now (store .exit)) ⌝ }
@@ -100,11 +111,7 @@ fn step(store: &mut [u32], images: &[u8], codes: &[u32], call: Encoded)
         fill_step(store, codes, call.a, call.b);
         return;
     }
-    if call.number == 8 {
-        register::nearest(store, call.a, call.b, call.c);
-        return;
-    }
-    register::check(store);
+    last_step(store, call);
 }
 
 // The call at this index of a script.

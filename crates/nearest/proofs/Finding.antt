@@ -1,5 +1,5 @@
 -- What a search among so many places says is what nearest answers.
-use Prim.Native.Nat.{ℕ, min, _+_, _≤_, _<_}
+use Prim.Native.Nat.{ℕ, min, _+_, _≤_}
 use native.Mathlib.Omega.{arith}
 use mathlib.Core.Path.{_≡_, refl, ap, _∙_}
 use mathlib.Core.Logic.{inl, inr, ⊎-elim}
@@ -18,7 +18,7 @@ use Rattle.promises.proofs.Answers.{yes-no-to}
 use Rattle.promises.proofs.SpoiledRoot.{spoiled-shut}
 use Rattle.answers.specs.declared.Nearest.{Nearest}
 use Rattle.answers.specs.declared.Searching.{Searching}
-use Rattle.answers.specs.declared.Searching.the-variants.{Ended, Refused}
+use Rattle.answers.specs.declared.Searching.the-variants.{Refused}
 use Rattle.answers.specs.declared.Refusal.the-variants.{StoreDamaged, NoBudget}
 use Rattle.answers.specs.Answer.{valuesOf, searchAnswer}
 use Rattle.nearest.specs.declared.distance.Place.{Place}
@@ -85,7 +85,7 @@ module _ {words : List ℕ} {layout : Layout} {place : Place} {budget : ℕ} whe
         go Full m = refuses (full-damaged m (omega (arith, within .slots-to)))
         go Damaged m = refuses m
         go (Known n) m = record {
-          ends = inl (record { accepted = refl; found-to = yes-no-to (n .found); opened-to = omega (arith, m .opened-to .0, m .opened-to .1, ap (λ (l : Layout). l .slots) (layout-said words said laid)) });
+          ends = inl (record { ended = refl; found-to = yes-no-to (n .found); opened-to = omega (arith, m .opened-to .0, m .opened-to .1, ap (λ (l : Layout). l .slots) (layout-said words said laid)) });
           spoiled = λ s. absurd (known-not-damaged (m .closed some (spoiled-shut words usable s)));
           sound = λ set holds.
               record {

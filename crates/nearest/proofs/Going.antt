@@ -1,15 +1,13 @@
 -- The loop of a search on any words: where it is for each set that they may hold; and where the root cannot be opened, that it has not been.
-use Prim.Native.Nat.{ℕ, suc, _+_, _-_, _*_, _/_, _%_, _≤_, _<_}
+use Prim.Native.Nat.{ℕ, _+_, _-_, _*_, _/_, _%_, _≤_, _<_}
 use native.Mathlib.Omega.{arith}
-use mathlib.Core.Path.{_≡_, refl, ap, ap₂, sym, subst, subst₂, _∙_}
+use mathlib.Core.Path.{_≡_, refl, ap, sym, subst, _∙_}
 use mathlib.Core.Bool.{true, false}
 use mathlib.Core.Logic.{_⊎_, inl, inr}
 use mathlib.Core.List.{List, [], _∷_}
 use lib.ListN.{length, getD}
 use Rattle.pktree.specs.PixelSet.{member}
 use Rattle.pktree.specs.Elements.{empty, block, gather, unlabelled}
-use Rattle.pktree.specs.Tree.{tree}
-use Rattle.pktree.proofs.Absurd.{zero-is-not-one}
 use Rattle.pktree.proofs.Forests.{blockCount}
 use Rattle.pktree.proofs.Unlabelled.{blockCount-unlabelled}
 use Rattle.measures.specs.declared.sizes.Layout.{Layout}
@@ -22,6 +20,7 @@ use Rattle.store.specs.Opening.{RootCannotOpen}
 use Rattle.store.specs.Sound.{Holds}
 use Rattle.store.proofs.BlockView.{BlockView, root-view}
 use Rattle.store.proofs.SoundView.{sound-view}
+use Rattle.store.proofs.Held.{tree-of-held}
 use Rattle.walks.proofs.RootWalk.{heldTree}
 use Rattle.searching.specs.Search.{blockElements, search}
 use Rattle.searching.proofs.Pruned.{pruned-nearest}
@@ -30,7 +29,6 @@ use Rattle.frontier.specs.declared.Entry.{Entry}
 use Rattle.frontier.specs.Entries.{entry, Pushed, Taken}
 use Rattle.nearest.specs.declared.best.Best.{Best}
 use Rattle.nearest.specs.declared.distance.Place.{Place}
-use Rattle.nearest.specs.declared.search.Turn.{Turn}
 use Rattle.nearest.specs.declared.search.Turn.the-variants as turn
 use Rattle.nearest.specs.declared.search.Searched.{Searched}
 use Rattle.nearest.specs.declared.search.Searched.the-variants.{Full, Damaged}
@@ -79,7 +77,7 @@ module _ {words : List ℕ} {layout : Layout} {place : Place} {budget : ℕ} whe
         let root = root-view words (holds .placed) es (holds .sound) v in
         let wide = layout-said words said laid in
         let is : block (sizesOf words .order) 0 (unlabelled es) empty ≡ heldTree words set =
-        sym (ap unlabelled (v .is)) ∙ holds .sound .is-tree ∙ ap (λ (l : List ℕ). tree (panelOf (sizesOf words)) (member l)) (holds .set-is) in
+        sym (ap unlabelled (v .is)) ∙ tree-of-held holds in
         let inside : gather (member set) (sizesOf words .k) (sizesOf words .order) 0 ≡ unlabelled es = cc is in
         record {
           state = search (blockElements (heldTree words set)) [];

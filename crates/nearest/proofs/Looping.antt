@@ -1,5 +1,5 @@
 -- The loop of `search`, from turn to turn.
-use Prim.Native.Nat.{ℕ, _+_, _-_, _*_, _/_, _≤_, _<_}
+use Prim.Native.Nat.{ℕ, _+_, _-_, _≤_, _<_}
 use native.Mathlib.Omega.{arith}
 use mathlib.Core.Path.{_≡_, refl, _∙_}
 use mathlib.Core.Bool.{true, false}
@@ -7,7 +7,7 @@ use mathlib.Core.List.{List}
 use lib.ListN.{length}
 use Rattle.measures.specs.declared.sizes.Layout.{Layout}
 use Rattle.measures.specs.declared.sizes.Sizes.{Sizes}
-use Rattle.measures.specs.Layout.{LaidOut, LayoutFits}
+use Rattle.measures.specs.Layout.{LaidOut}
 use Rattle.measures.specs.Sizes.{UsableStore, sizesOf}
 use Rattle.measures.proofs.Usable.{sizes-valid}
 use Rattle.frontier.specs.declared.Entry.{Entry}
@@ -18,7 +18,7 @@ use Rattle.nearest.specs.declared.search.Turn.{Turn}
 use Rattle.nearest.specs.declared.search.Turn.the-variants.{Opened, Full, Damaged}
 use Rattle.nearest.specs.declared.search.Searched.{Searched}
 use Rattle.nearest.specs.declared.search.Searched.the-variants as searched
-use Rattle.nearest.specs.Place.{beyond, ToBlock}
+use Rattle.nearest.specs.Place.{ToBlock}
 use Rattle.nearest.specs.Meeting.{KeyIs, TagIs}
 use Rattle.nearest.specs.Turns.{distanceIn, TurnMeets}
 use Rattle.nearest.specs.Searches.{DistanceShown, Stated, SearchMeets}

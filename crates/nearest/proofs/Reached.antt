@@ -1,48 +1,30 @@
 -- Where a search on a sound store is: the blocks met and opened, what is left of the budget, and that the answer is still the same.
-use Prim.Native.Nat.{ℕ, suc, _+_, _-_, _≤_, _<_}
+use Prim.Native.Nat.{ℕ, _+_, _-_, _≤_}
 use native.Mathlib.Omega.{arith}
-use mathlib.Core.Path.{_≡_, refl, ap, sym, subst, _∙_}
-use mathlib.Core.Bool.{Bool, true, false, false≢true}
-use mathlib.Core.Option.{Option, none, some}
+use mathlib.Core.Path.{_≡_, refl, sym, subst}
 use mathlib.Core.List.{List, [], _∷_, _++_}
-use lib.Dec.{ltb}
-use lib.ListN.{length, length-append}
-use borrow.Author.Tests.{lt-ltb, le-ltb}
-use Rattle.morton.specs.Code.{xOf, yOf}
-use Rattle.morton.proofs.Codes.{gather-below}
-use Rattle.pktree.specs.Lists.{Every, total}
+use lib.ListN.{length}
+use Rattle.pktree.specs.Lists.{total}
 use Rattle.pktree.specs.Panel.{Panel, Valid}
-use Rattle.pktree.specs.PixelSet.{member}
 use Rattle.pktree.specs.Tree.{BlockOf}
-use Rattle.pktree.proofs.WindowParts.{total-join}
 use Rattle.measures.specs.declared.sizes.Layout.{Layout}
 use Rattle.measures.specs.Sizes.{panelOf, sizesOf}
 use Rattle.store.specs.Sound.{Holds}
 use Rattle.walks.proofs.RootWalk.{heldTree}
-use Rattle.searching.specs.Distance.{squaredDistance}
-use Rattle.searching.specs.Search.{pixelElements, distanceTo, nearestOf, next, others, Search, search, found, isFarther, allFarther}
-use Rattle.searching.specs.Nearest.{isSome, codeFound, distanceFound, limitOf, nearestBy, nearestIn}
-use Rattle.searching.specs.Nearest as searching
-use Rattle.searching.proofs.Distances.{nearest-position}
-use Rattle.searching.proofs.NextBlock.{chosen-every, chosen-total}
+use Rattle.searching.specs.Search.{next, others, Search, search, found}
+use Rattle.searching.specs.Nearest.{nearestBy, nearestIn}
 use Rattle.searching.proofs.OpenedPixels.{heldBy}
-use Rattle.searching.proofs.Completion.{farther-next, limit-complete, limit-incomplete}
-use Rattle.searching.proofs.TreeBlocks.{Gathered}
-use Rattle.searching.proofs.Pruned.{keepNext, pruned, pruned-complete, pruned-spent, pruned-on, found-kept, held-kept}
-use Rattle.searching.proofs.Spread.{Spread, spread-kept}
+use Rattle.searching.proofs.Pruned.{pruned}
+use Rattle.searching.proofs.Spread.{Spread}
 use Rattle.frontier.specs.declared.Entry.{Entry}
 use Rattle.frontier.specs.Entries.{queued, Taken}
 use Rattle.nearest.specs.declared.best.Best.{Best}
 use Rattle.nearest.specs.declared.distance.Place.{Place}
-use Rattle.nearest.specs.declared.search.Searched.{Searched}
-use Rattle.nearest.specs.Place.{placeCode, beyond}
+use Rattle.nearest.specs.Place.{placeCode}
 use Rattle.nearest.specs.Best.{bestOf}
 use Rattle.nearest.specs.Matching.{EntryOf, Matches}
-use Rattle.nearest.specs.Meeting.{Added}
-use Rattle.nearest.specs.Turns.{distanceIn, Turned}
-use Rattle.nearest.specs.Searches.{values, Stated}
 use Rattle.nearest.proofs.LeastEntries.{TakenFrom, least-taken, rest-taken}
-use Rattle.nearest.proofs.EntryOrder.{distance-told, matches-next, keys-apart}
+use Rattle.nearest.proofs.EntryOrder.{matches-next, keys-apart}
 
 module _ (width slots : ℕ) (words : List ℕ) (place : ℕ) where
   abbrev Stand : List BlockOf → List Entry → Type 0

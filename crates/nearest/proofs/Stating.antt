@@ -2,16 +2,14 @@
 use Prim.Native.Nat.{ℕ, _*_, _≤_, _<_}
 use native.Mathlib.Omega.{arith}
 use native.Mathlib.Nat.{mul-le-mul}
-use mathlib.Core.Path.{_≡_, refl, ap, sym, _∙_}
-use mathlib.Core.Bool.{Bool, true, false}
+use mathlib.Core.Path.{_≡_, refl, ap, _∙_}
+use mathlib.Core.Bool.{Bool}
 use mathlib.Core.Option.{Option, none, some}
-use mathlib.Core.List.{List}
 use lib.Dec.{ltb}
 use lib.ListN.{length}
-use borrow.Author.Tests.{lt-ltb, le-ltb}
+use borrow.Author.Tests.{lt-ltb}
 use Rattle.morton.specs.Code.{xOf, yOf}
 use Rattle.morton.proofs.Codes.{gather-below}
-use Rattle.pktree.specs.Tree.{BlockOf}
 use Rattle.searching.specs.Distance.{apart, squaredDistance}
 use Rattle.searching.specs.Search.{Search, found, allFarther}
 use Rattle.searching.specs.Nearest.{isSome, codeFound, distanceFound, limitOf, nearestBy}

@@ -117,7 +117,7 @@ module _ {opened : ℕ} {a : Answer} where
   refused-search {n} i = record { zeros = λ z. zeros-beside n i; found-to = omega (arith, first-of i); opened-to = omega (arith, second-of i) }
 
   walk-search : {before after : List ℕ} → Searches opened (effect a before after) ⊎ ((a ≡ refused 13) × (after ≡ before)) → SearchBounded opened a
-  walk-search ends = ⊎-elim (λ s. record { zeros = λ z. absurd (z (s .accepted)); found-to = s .found-to; opened-to = s .opened-to }) (λ d. refused-search (d .0)) ends
+  walk-search ends = ⊎-elim (λ s. record { zeros = λ z. absurd (z (s .ended)); found-to = s .found-to; opened-to = s .opened-to }) (λ d. refused-search (d .0)) ends
 
 pub nearest-bounded : {words : List ℕ} {x y budget : ℕ} {a : Answer} → NearestMeets words x y budget a → SearchBounded (min budget (slotsIn words)) a
 nearest-bounded m =

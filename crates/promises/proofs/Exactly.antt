@@ -101,9 +101,9 @@ pub record NearestRefusals (words : List ℕ) (x y budget : ℕ) (a : Answer) : 
 
 pub nearest-refusals : {words : List ℕ} {x y budget : ℕ} {a : Answer} → NearestMeets words x y budget a → NearestRefusals words x y budget a
 nearest-refusals m = record {
-  unusable = exactly (never (omega arith) (never (omega arith) (λ w. walk-number (λ s. accepted-number (s .accepted)) w .0))) m;
-  off-panel = then-exactly (omega arith) (exactly (never (omega arith) (λ w. walk-number (λ s. accepted-number (s .accepted)) w .1))) m;
-  no-budget = then-exactly (omega arith) (then-exactly (omega arith) (exactly (λ w. walk-number (λ s. accepted-number (s .accepted)) w .3))) m;
+  unusable = exactly (never (omega arith) (never (omega arith) (λ w. walk-number (λ s. accepted-number (s .ended)) w .0))) m;
+  off-panel = then-exactly (omega arith) (exactly (never (omega arith) (λ w. walk-number (λ s. accepted-number (s .ended)) w .1))) m;
+  no-budget = then-exactly (omega arith) (then-exactly (omega arith) (exactly (λ w. walk-number (λ s. accepted-number (s .ended)) w .3))) m;
 }
 
 module _ {words : List ℕ} {x0 y0 x1 y1 : ℕ} {a : Answer} where

@@ -8,22 +8,18 @@ use mathlib.Core.Bool.{Bool, true, false, false≢true}
 use mathlib.Core.List.{List, []}
 use lib.ListN.{length}
 use Rattle.morton.specs.Code.{codeOf}
-use Rattle.pktree.specs.PixelSet.{member, PixelSet}
-use Rattle.pktree.specs.Elements.{empty, block, unlabelled}
-use Rattle.pktree.specs.Tree.{tree, pixels, blocks}
-use Rattle.pktree.proofs.Forests.{blockCount, length-blocks}
-use Rattle.pktree.proofs.Pixels.{pixels-of-tree-are-set}
-use Rattle.pktree.proofs.Unlabelled.{pixels-unlabelled, blockCount-unlabelled}
+use Rattle.pktree.specs.PixelSet.{member}
+use Rattle.pktree.specs.Tree.{tree, blocks}
 use Rattle.searching.specs.Distance.{squaredDistance}
 use Rattle.searching.specs.Nearest.{Nearest}
 use Rattle.searching.specs.NearestPromises.{nearestOn, IsNearest, NearestPromises}
 use Rattle.searching.proofs.NearestPromises.{nearest-promises}
 use Rattle.measures.specs.Sizes.{panelOf, sizesOf}
 use Rattle.store.specs.Sound.{Holds}
-use Rattle.store.proofs.SoundView.{sound-view}
+use Rattle.store.proofs.Held.{held-set}
 use Rattle.promises.specs.Answer.{Answer, yesNo, searched}
 use Rattle.promises.specs.Effect.{HasPixelOn}
-use Rattle.promises.specs.Calls.{slotsIn, NearestMeets}
+use Rattle.promises.specs.Calls.{NearestMeets}
 use Rattle.promises.proofs.Ladder.{where-holds}
 
 -- the pixel of these numbers is the nearest of all, and the limit its squared distance
@@ -52,23 +48,8 @@ said-no true e = absurd (omega (arith, e))
 said-no false e = refl
 
 module _ {words set : List ℕ} (holds : Holds words set) where
-  -- what a sound store holds is a set of pixels of its panel
-  pub held-set : PixelSet (panelOf (sizesOf words)) set
-  held-set =
-      let is : tree (panelOf (sizesOf words)) (member (pixels (holds .placed))) ≡ tree (panelOf (sizesOf words)) (member set) = ap (λ (l : List ℕ). tree (panelOf (sizesOf words)) (member l)) (holds .set-is) in
-      subst (PixelSet (panelOf (sizesOf words))) (ap pixels (sym is ∙ sym (holds .sound .is-tree)) ∙ pixels-unlabelled (holds .placed) ∙ holds .set-is)
-      (pixels-of-tree-are-set (panelOf (sizesOf words)) (member set))
-
-  -- no more blocks than slots
-  pub held-blocks : length (blocks (tree (panelOf (sizesOf words)) (member set))) ≤ slotsIn words
-  held-blocks =
-      let (es, v) = sound-view words (holds .placed) (holds .sound) in
-      let is : tree (panelOf (sizesOf words)) (member set) ≡ block (sizesOf words .order) 0 (unlabelled es) empty =
-      ap (λ (l : List ℕ). tree (panelOf (sizesOf words)) (member l)) (sym (holds .set-is)) ∙ sym (holds .sound .is-tree) ∙ ap unlabelled (v .is) in
-      omega (arith, length-blocks (tree (panelOf (sizesOf words)) (member set)), ap blockCount is, blockCount-unlabelled es, v .few)
-
   pub nearest-promised : (place budget : ℕ) → NearestPromises (panelOf (sizesOf words)) set place budget
-  nearest-promised = nearest-promises (panelOf (sizesOf words)) set (holds .sound .usable .valid .panel) held-set
+  nearest-promised = nearest-promises (panelOf (sizesOf words)) set (holds .sound .usable .valid .panel) (held-set holds)
 
   numbers-say : (place budget : ℕ) → NumbersSay place budget set (searched (nearestOn (panelOf (sizesOf words)) set place budget))
   numbers-say place budget =

@@ -7,14 +7,11 @@ use mathlib.Core.List.{List, [], _∷_}
 use lib.ListN.{length, take, drop}
 use lib.Seq.{take-at}
 use Rattle.pktree.specs.Lists.{select}
-use Rattle.pktree.specs.PixelSet.{member, Ascending}
-use Rattle.pktree.specs.Elements.{unlabelled}
-use Rattle.pktree.specs.Tree.{tree, pixels}
+use Rattle.pktree.specs.PixelSet.{Ascending}
 use Rattle.pktree.specs.Window.{Window, inWindow, Ordered, found}
-use Rattle.pktree.proofs.Pixels.{ascending-lower, pixels-of-tree-are-set}
-use Rattle.pktree.proofs.Unlabelled.{pixels-unlabelled}
-use Rattle.measures.specs.Sizes.{panelOf, sizesOf}
+use Rattle.pktree.proofs.Pixels.{ascending-lower}
 use Rattle.store.specs.Sound.{Holds}
+use Rattle.store.proofs.Held.{held-set}
 use Rattle.promises.specs.Answer.{Answer}
 use Rattle.promises.specs.Effect.{partIn}
 use Rattle.promises.specs.Calls.{windowGiven, ListMeets}
@@ -30,13 +27,6 @@ select-ascends test from (c ∷ set) h = go (test c) (select-ascends test (suc c
     go true rest = (h .0, rest)
     go false rest = ascending-lower from (suc c) (select test set) (omega (arith, h .0)) rest
 
--- a set that a store holds ascends
-held-ascends : {words set : List ℕ} → Holds words set → Ascending 0 set
-held-ascends {words} {set} h =
-    let is : unlabelled (h .placed) ≡ tree (panelOf (sizesOf words)) (member set) =
-    h .sound .is-tree ∙ ap (λ (l : List ℕ). tree (panelOf (sizesOf words)) (member l)) (h .set-is) in
-    subst (Ascending 0) (ap pixels (sym is) ∙ pixels-unlabelled (h .placed) ∙ h .set-is) (pixels-of-tree-are-set (panelOf (sizesOf words)) (member set) .ascending)
-
 pub list-rises : {words set : List ℕ} → Holds words set → {a : Answer} {x0 y0 x1 y1 : ℕ} → Ordered (windowGiven x0 y0 x1 y1) → {before after : List ℕ}
     → ListMeets words x0 y0 x1 y1 before after a → length (found (partIn words (windowGiven x0 y0 x1 y1)) set) ≤ length before → Ascending 0 (take (a .first) after)
 list-rises {words} {set} holds {a} {x0} {y0} {x1} {y1} ordered {before} {after} meets room =
@@ -45,4 +35,4 @@ list-rises {words} {set} holds {a} {x0} {y0} {x1} {y1} ordered {before} {after} 
     let written : take (a .first) after ≡ found part set =
     ap (λ (n : ℕ). take n after) (first-of (w .0)) ∙ ap (take (length (found part set))) (w .1)
     ∙ take-at (found part set) (drop (length (found part set)) before) (length (found part set)) refl in
-    subst (Ascending 0) (sym written) (select-ascends (inWindow part) 0 set (held-ascends holds))
+    subst (Ascending 0) (sym written) (select-ascends (inWindow part) 0 set (held-set holds .ascending))

@@ -22,7 +22,7 @@ pub record Accepts (first second : ℕ) (e : Effect) : Type 0 where
 
 -- 02, P5: a search ended, with at most so many blocks opened
 pub record Searches (opened : ℕ) (e : Effect) : Type 0 where
-  pub accepted : e .answer .refusal ≡ 0
+  pub ended : e .answer .refusal ≡ 0
   pub found-to : e .answer .first ≤ 1
   pub opened-to : e .answer .second ≤ opened
 

@@ -1,5 +1,5 @@
 -- What the descent finds is what ask answers.
-use Prim.Native.Nat.{ℕ, suc, _+_, _≤_}
+use Prim.Native.Nat.{ℕ, suc, _+_}
 use native.Mathlib.Omega.{arith}
 use mathlib.Core.Path.{_≡_, refl, ap, ap₂, subst, sym, _∙_}
 use mathlib.Core.Logic.{inl, inr}
@@ -17,6 +17,7 @@ use Rattle.measures.specs.Layout.{layoutOf, LaidOut}
 use Rattle.measures.specs.Slot.{slotPart, countWord}
 use Rattle.measures.proofs.Usable.{layout-said}
 use Rattle.store.specs.Opening.{HeaderSays, RootCannotOpen}
+use Rattle.store.proofs.Held.{tree-of-held}
 use Rattle.descent.specs.declared.Located.{Located}
 use Rattle.descent.specs.Located.{LocateMeets}
 use Rattle.descent.proofs.OpenedByPixel.{opened-by-pixel, marked-exactly}
@@ -25,7 +26,6 @@ use Rattle.promises.specs.Effect.{effect}
 use Rattle.promises.specs.Calls.{Asks}
 use Rattle.promises.proofs.Answers.{yes-no-to}
 use Rattle.promises.proofs.SpoiledRoot.{spoiled-shut}
-use Rattle.pktree.specs.Elements.{unlabelled}
 
 module _ (words : List ℕ) (code : ℕ) (sizes : Sizes) (layout : Layout) (slots places : List ℕ) (r : Located) (usable : UsableStore words) (sizes-are : sizes ≡ sizesOf words) (laid : LaidOut sizes layout)
     (on : OnPanel (panelOf sizes) code) (m : LocateMeets words layout (sizes .order) code slots places r) where
@@ -48,9 +48,8 @@ module _ (words : List ℕ) (code : ℕ) (sizes : Sizes) (layout : Layout) (slot
         sound = λ set holds.
             let s = holds .sound in
             let l = m .sound (holds .placed) s layout-is order-is on .1 in
-            let e : unlabelled (holds .placed) ≡ tree (panelOf (sizesOf words)) (member set) = s .is-tree ∙ ap (λ (t : List ℕ). tree (panelOf (sizesOf words)) (member t)) (holds .set-is) in
             let marked : member set code ≡ r .marked = ap (λ (t : List ℕ). member t code) (sym (holds .set-is)) ∙ marked-exactly s l in
-            let opened : openedByPixel code (tree (panelOf (sizesOf words)) (member set)) ≡ suc (r .depth) = ap (openedByPixel code) (sym e) ∙ opened-by-pixel s l in
+            let opened : openedByPixel code (tree (panelOf (sizesOf words)) (member set)) ≡ suc (r .depth) = ap (openedByPixel code) (sym (tree-of-held holds)) ∙ opened-by-pixel s l in
             record { is = ap₂ (λ (b : Bool) (n : ℕ). accepted (yesNo b) n) (sym marked) (omega (arith, opened)); same = refl };
       }
 

@@ -19,7 +19,7 @@ use Rattle.walks.proofs.RootWalk.{heldTree, root-walked}
 use Rattle.store.proofs.SoundView.{sound-view}
 use Rattle.saving.specs.declared.numbers.Numbers.the-variants.{Said, Damaged}
 use Rattle.saving.specs.Numbers.{NumbersAnswer, BlockTallied}
-use Rattle.saving.proofs.SavedImage.{tree-of-held}
+use Rattle.store.proofs.Held.{tree-of-held}
 use Rattle.pktree.specs.Elements.{unlabelled}
 
 module _ {words : List ℕ} {sizes : Sizes} {layout : Layout} {n m : ℕ} (said : sizes ≡ sizesOf words) (laid : LaidOut sizes layout)

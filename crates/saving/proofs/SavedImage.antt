@@ -7,26 +7,16 @@ use lib.ListN.{length, drop, length-drop}
 use lib.Seq.{drop-drop}
 use Rattle.pktree.specs.Panel.{Panel}
 use Rattle.pktree.specs.PixelSet.{member}
-use Rattle.pktree.specs.Tree.{tree, blocks, pixels}
+use Rattle.pktree.specs.Tree.{tree, blocks}
 use Rattle.pktree.specs.Entries.{Entry, entries}
 use Rattle.pktree.specs.Image.{codeBytes, levelBytes, header, image, headerLength}
 use Rattle.pktree.proofs.EntryOrder.{number-of-entries}
 use Rattle.pktree.proofs.Images.{image-length}
-use Rattle.pktree.proofs.Unlabelled.{pixels-unlabelled}
-use Rattle.measures.specs.Sizes.{panelOf, sizesOf}
 use Rattle.store.specs.Sound.{Holds}
+use Rattle.store.proofs.Held.{pixels-of-held}
 use Rattle.walks.proofs.RootWalk.{heldTree}
 use Rattle.image.specs.Writing.{putEntries, HeaderPut}
 use Rattle.image.proofs.EntryWrites.{all-entries-land}
-use Rattle.pktree.specs.Elements.{unlabelled}
-
--- a sound store holds the tree of its own pixels
-pub tree-of-held : {words set : List ℕ} (holds : Holds words set) → unlabelled (holds .placed) ≡ heldTree words set
-tree-of-held {words} holds = holds .sound .is-tree ∙ ap (λ (l : List ℕ). tree (panelOf (sizesOf words)) (member l)) (holds .set-is)
-
--- whose pixels are the set
-pixels-of-held : {words set : List ℕ} → Holds words set → pixels (heldTree words set) ≡ set
-pixels-of-held holds = ap pixels (sym (tree-of-held holds)) ∙ pixels-unlabelled (holds .placed) ∙ holds .set-is
 
 -- 01: e is the number of pixels and of blocks
 pub entries-counted : {words set : List ℕ} → Holds words set → length set + length (blocks (heldTree words set)) ≡ length (entries (heldTree words set))

@@ -2,6 +2,7 @@ pub mod Splices
 pub mod Standing
 pub mod PlacedJoin
 pub mod SoundView
+pub mod Held
 pub mod BlockView
 pub mod OpenedSlot
 pub mod PassedElements

@@ -8,11 +8,10 @@ use mathlib.Core.List.{List, _++_, append-nil}
 use lib.Dec.{eqb}
 use lib.ListN.{length, take, drop, set, length-set, length-append}
 use lib.Seq.{take-set-le, drop-set-lt, getD-set-same, getD-set-other}
-use Rattle.pktree.specs.PixelSet.{member, Ascending, PixelSet, added, removed}
+use Rattle.pktree.specs.PixelSet.{member, Ascending, added, removed}
 use Rattle.pktree.specs.Elements.{blockAt, empty}
 use Rattle.pktree.specs.Tree.{pixels}
-use Rattle.pktree.proofs.Pixels.{pixels-of-tree-are-set}
-use Rattle.pktree.proofs.Unlabelled.{pixels-unlabelled, labelled-tree}
+use Rattle.pktree.proofs.Unlabelled.{labelled-tree}
 use Rattle.pktree.proofs.SetChanges.{added-at-place, removed-at-place}
 use Rattle.pktree.proofs.Absurd.{zero-is-not-one}
 use Rattle.measures.specs.Words.{pixelsWord}
@@ -25,6 +24,7 @@ use Rattle.measures.specs.Slot.{slotPart}
 use Rattle.store.specs.Placed.{Placed, slotsOf}
 use Rattle.store.specs.Reading.{readSlot}
 use Rattle.store.specs.Sound.{Holds}
+use Rattle.store.proofs.Held.{held-set}
 use Rattle.store.proofs.Standing.{SlotSays, depth-below-level, complete-slot, frame}
 use Rattle.measures.proofs.SlotWrites.{take-less, word-in-front, head-word-set}
 use Rattle.store.proofs.FreeChains.{every-of-all, free-kept}
@@ -40,12 +40,6 @@ use Rattle.update.specs.declared.marks.Changing.the-variants as changing
 use Rattle.update.specs.Changed.{OnePixel, comes, goes, exchanged, CountAllows, CanChange, ChangeMeets}
 use Rattle.propagate.specs.Propagate.{CanPropagate, PropagateMeets}
 use Rattle.update.proofs.ChangeBegins.{settingOf, pixelsAt, at-most-pixel, change-begins}
-
--- what a store holds is a set of pixels
-held-is-set : (words set : List ℕ) → Holds words set → PixelSet (panelOf (sizesOf words)) set
-held-is-set words set h =
-    subst (PixelSet (panelOf (sizesOf words))) (ap pixels (sym (h .sound .is-tree)) ∙ pixels-unlabelled (h .placed) ∙ h .set-is)
-    (pixels-of-tree-are-set (panelOf (sizesOf words)) (member (pixels (h .placed))))
 
 module _ (before mid : List ℕ) (usable : UsableStore before) (code : ℕ) (target : List ℕ) (few : length target ≤ sizesOf before .most) (kept : Kept (layoutOf (sizesOf before)) before mid) where
   abbrev after : List ℕ
@@ -236,7 +230,7 @@ module _ {before slots places : List ℕ} {sizes : Sizes} {layout : Layout} {cod
             let q : was ≡ b .left ++ (pixels (pixelsAt out code) ++ b .right) = sym (h .set-is) ∙ b .set-was in
             rw count-is (
               told,
-              subst (Holds (set mid 6 (length target))) (exchanged-there code one (b .left) (b .right) q (held-is-set before was h .ascending) (held-is-set _ _ holds .ascending)) holds,
+              subst (Holds (set mid 6 (length target))) (exchanged-there code one (b .left) (b .right) q (held-set h .ascending) (held-set holds .ascending)) holds,
               sizes-stay before mid (h .sound .usable) code target (b .few) kept,
             )
 

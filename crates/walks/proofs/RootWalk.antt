@@ -14,6 +14,7 @@ use Rattle.measures.proofs.Usable.{layout-said}
 use Rattle.store.specs.Sound.{Holds}
 use Rattle.store.proofs.BlockView.{BlockView, root-view}
 use Rattle.store.proofs.SoundView.{sound-view}
+use Rattle.store.proofs.Held.{tree-of-held}
 use Rattle.walks.proofs.Walks.{BlockWalked}
 
 -- the tree of the set that a store holds
@@ -28,6 +29,5 @@ root-walked {W = W} {layout = layout} {sizes = sizes} {words = words} {set = set
     let view : BlockView (sizesOf words .k) (layout .width) (layout .slots) words 0 (sizes .order) 0 es =
     subst₂ (λ (l : Layout) (z : Sizes). BlockView (sizesOf words .k) (l .width) (l .slots) words 0 (z .order) 0 es) (sym (layout-said words said laid)) (sym said) root in
     let is : block (sizes .order) 0 (unlabelled es) empty ≡ heldTree words set =
-    ap (λ (z : Sizes). block (z .order) 0 (unlabelled es) empty) said ∙ sym (ap unlabelled (v .is)) ∙ holds .sound .is-tree
-    ∙ ap (λ (l : List ℕ). tree (panelOf (sizesOf words)) (member l)) (holds .set-is) in
+    ap (λ (z : Sizes). block (z .order) 0 (unlabelled es) empty) said ∙ sym (ap unlabelled (v .is)) ∙ tree-of-held holds in
     subst (λ (f : Forest). W s f t) is (walked .right (sizesOf words .k) es (omega (arith, view .level-to)) view)

@@ -1,6 +1,6 @@
 -- `history::step` meets its contract: the number of the call says which of the calls was made.
 use borrow.Author.Tests.{ne-eqb}
-use Rattle.history.proofs.CallSteps.{mark-step, clear-step, ask-step, nearest-step, count-step, check-step}
+use Rattle.history.proofs.CallSteps.{mark-step, clear-step, ask-step, count-step}
 use borrow.Author.Needs.{needs}
 use Rattle.history.proofs.step.Statement.{statement}
 use Rattle.history.proofs.step.Tie as tie
@@ -29,14 +29,10 @@ returns-7 c = rw (c .before .before .before .before .if7 .taken) (c .before .bef
 returns-8 : tie.Need-returns-8
 returns-8 c = rw (c .before .before .before .before .if8 .taken) (c .before .before .fill-step .ensures)
 
+-- no number of the calls before: nearest or check
 returns-9 : tie.Need-returns-9
-returns-9 c = rw (c .before .before .if9 .taken) (nearest-step _ _ _ _ (c .nearest .result) (c .nearest .ensures))
-
--- no number of a call: check
-returns-10 : tie.Need-returns-10
-returns-10 c =
-    let nears = c .before .before in
-    let fills = nears .before .before in
+returns-9 c =
+    let fills = c .before .before in
     let loads = fills .before .before in
     let saves = loads .before .before in
     let lists = saves .before .before in
@@ -45,8 +41,8 @@ returns-10 c =
     let clears = asks .before .before in
     let marks = clears .before .before in
     let number = marks .before .before .before .before .before .args .call .number in
-    rw (ne-eqb number 0 (marks .if1 .left), ne-eqb number 1 (clears .if2 .left), ne-eqb number 2 (asks .if3 .left), ne-eqb number 3 (counts .if4 .left), ne-eqb number 4 (lists .if5 .left), ne-eqb number 5 (saves .if6 .left), ne-eqb number 6 (loads .if7 .left), ne-eqb number 7 (fills .if8 .left), ne-eqb number 8 (nears .if9 .left))
-    (check-step _ (c .check .result) (c .check .ensures))
+    rw (ne-eqb number 0 (marks .if1 .left), ne-eqb number 1 (clears .if2 .left), ne-eqb number 2 (asks .if3 .left), ne-eqb number 3 (counts .if4 .left), ne-eqb number 4 (lists .if5 .left), ne-eqb number 5 (saves .if6 .left), ne-eqb number 6 (loads .if7 .left), ne-eqb number 7 (fills .if8 .left))
+    (c .last-step .ensures)
 
 pub step-spec : {M : Type 1} → statement M
 step-spec =
@@ -78,7 +74,4 @@ step-spec =
     returns-8
     (λ c κs. search needs)
     (λ c. search needs)
-    returns-9
-    (λ c κs. search needs)
-    (λ c. search needs)
-    returns-10)
+    returns-9)

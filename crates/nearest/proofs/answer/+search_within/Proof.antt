@@ -1,6 +1,5 @@
 -- `nearest::answer::search_within` meets its contract: it calls itself only with more places than few.
 use Prim.Native.Nat.{ℕ, _+_, _-_}
-use native.Mathlib.Omega.{arith}
 use borrow.Author.Needs.{needs}
 use borrow.Fn.PlainCycle.{Measures}
 use Rattle.nearest.specs.Searches.{fewPlaces}
