@@ -17,7 +17,7 @@
  *   - a store and an image, codes or an output that do not overlap;
  *   - one thread at a time on a store. The library has no state of its own, so different stores need no lock;
  *   - 16 KiB of stack, and 1 MiB for pk_nearest. This is tried, not proved: tests/stack_test.c runs every call on so much, and they use
- *     about 9 KiB, pk_nearest at most 770 KiB.
+ *     about 9 KiB, pk_nearest at most 774 KiB.
  * Given that, no call can fail in another way than by its refusal: no other argument and no content of the store is asked for
  * beforehand, no call reads or writes past what was lent, and each call ends.
  */
@@ -126,7 +126,7 @@ pk_answer pk_ask(const uint32_t *store, size_t words, uint32_t x, uint32_t y);
    is certainly fit. complete: 1 when no block is left that could hold a pixel as near as the one found, else 0. The pixel is then the nearest
    of all, and limit is its distance; or found is 0, nothing is marked, and limit is 0. A larger budget never gives a farther pixel or a
    smaller limit, and a budget of all the blocks of the tree always completes the search.
-   Most searches use less than 3 KiB of stack, but one among many blocks at nearly one distance needs 770 KiB. Refusals 3, 4, 13, 15. */
+   Most searches use about 4 KiB of stack, but one among many blocks at nearly one distance needs 774 KiB. Refusals 3, 4, 13, 15. */
 pk_nearest_answer pk_nearest(const uint32_t *store, size_t words, uint32_t x, uint32_t y, uint32_t budget);
 
 /* The window from (x0, y0) to (x1, y1), both corners included; it may reach past the panel, to any coordinate, and its part on the panel is

@@ -2,17 +2,15 @@
 use Prim.Native.Nat.{ℕ, _+_, _-_, _*_, _/_, _%_, _≤_, _<_}
 use native.Mathlib.Omega.{arith}
 use mathlib.Core.Path.{_≡_, refl, ap, sym, subst, _∙_}
-use mathlib.Core.Bool.{true, false}
-use mathlib.Core.Logic.{_⊎_, inl, inr}
+use mathlib.Core.Bool.{Bool, true, false}
 use mathlib.Core.List.{List, [], _∷_}
-use lib.ListN.{length, getD}
+use lib.ListN.{getD}
 use Rattle.pktree.specs.PixelSet.{member}
 use Rattle.pktree.specs.Elements.{empty, block, gather, unlabelled}
 use Rattle.pktree.proofs.Forests.{blockCount}
 use Rattle.pktree.proofs.Unlabelled.{blockCount-unlabelled}
 use Rattle.measures.specs.declared.sizes.Layout.{Layout}
-use Rattle.measures.specs.declared.sizes.Sizes.{Sizes}
-use Rattle.measures.specs.Layout.{LaidOut, mostElements}
+use Rattle.measures.specs.Layout.{LaidOut}
 use Rattle.measures.specs.Sizes.{panelOf, sizesOf}
 use Rattle.measures.proofs.Usable.{layout-said}
 use Rattle.store.specs.Element.{tagSlots}
@@ -23,35 +21,25 @@ use Rattle.store.proofs.SoundView.{sound-view}
 use Rattle.store.proofs.Held.{tree-of-held}
 use Rattle.walks.proofs.RootWalk.{heldTree}
 use Rattle.searching.specs.Search.{blockElements, search}
+use Rattle.searching.specs.Nearest.{nearestIn}
 use Rattle.searching.proofs.Pruned.{pruned-nearest}
 use Rattle.searching.proofs.Spread.{spread-start}
 use Rattle.frontier.specs.declared.Entry.{Entry}
 use Rattle.frontier.specs.Entries.{entry, Pushed, Taken}
+use Rattle.answers.specs.declared.Nearest.{Nearest}
 use Rattle.nearest.specs.declared.best.Best.{Best}
 use Rattle.nearest.specs.declared.distance.Place.{Place}
 use Rattle.nearest.specs.declared.search.Turn.the-variants as turn
 use Rattle.nearest.specs.declared.search.Searched.{Searched}
-use Rattle.nearest.specs.declared.search.Searched.the-variants.{Full, Damaged}
+use Rattle.nearest.specs.declared.search.Searched.the-variants.{Known}
 use Rattle.nearest.specs.Place.{placeCode, beyond, ToBlock}
 use Rattle.nearest.specs.Matching.{keyCodes, tagOf}
 use Rattle.nearest.specs.Meeting.{KeyIs, TagIs}
 use Rattle.nearest.specs.Turns.{distanceIn, Shut, TurnMeets}
-use Rattle.nearest.specs.Searches.{DistanceShown, Stated, SearchMeets}
-use Rattle.nearest.proofs.Reached.{Reached, Aimed, aim}
-use Rattle.nearest.proofs.SearchSteps.{values-complete, values-spent, values-over, few-opened, few-met, go-on}
-
--- the root's entry is the only one, and nothing was opened yet
-pub record AtStart (order : ℕ) (keys tags : List ℕ) (met opened : ℕ) (best : Best) : Type 0 where
-  pub opened-none : opened ≡ 0
-  pub none-found : best .distance ≡ beyond
-  pub one-met : met ≡ 1
-  pub below : getD keys 0 0 / keyCodes < beyond
-  pub code-is : getD keys 0 0 % keyCodes ≡ 0
-  pub tag-is : getD tags 0 0 ≡ tagOf 0 order
-
-pub record Going (words : List ℕ) (layout : Layout) (place : Place) (budget : ℕ) (keys tags : List ℕ) (met opened : ℕ) (best : Best) : Type 0 where
-  pub reached : (set : List ℕ) (holds : Holds words set) → Reached holds layout place budget keys tags met opened best
-  pub first : RootCannotOpen words → AtStart (sizesOf words .order) keys tags met opened best
+use Rattle.nearest.specs.UnderWay.{Reached, AtStart, Going, noBest}
+use Rattle.nearest.specs.Searches.{values, DistanceShown, Stated, Closes}
+use Rattle.nearest.proofs.Aimed.{Aimed, aim}
+use Rattle.nearest.proofs.SearchSteps.{values-complete, values-spent, values-over, few-opened, go-on}
 
 -- the root's entry was taken out
 pub record RootTaken (order opened : ℕ) (best : Best) (e : Entry) : Type 0 where
@@ -65,17 +53,32 @@ pub record Aiming (words : List ℕ) (layout : Layout) (place : Place) (budget :
   pub aimed : (set : List ℕ) (holds : Holds words set) → Aimed holds layout place budget keys tags met opened best e
   pub first : RootCannotOpen words → RootTaken (sizesOf words .order) opened best e
 
-abbrev pub noBest : Best
-noBest = record { distance = beyond; code = 0 }
+-- the values are known, and right
+pub record Ended (words : List ℕ) (layout : Layout) (place : Place) (budget : ℕ) (r : Searched) : Type 0 where
+  pub nearest : Nearest
+  pub is : r ≡ Known nearest
+  pub right : (set : List ℕ) → Holds words set → nearest ≡ values (nearestIn (heldTree words set) (placeCode place) budget)
+  pub closes : Closes words (layout .slots) budget (nearest .opened)
 
 module _ {words : List ℕ} {layout : Layout} {place : Place} {budget : ℕ} where
-  module _ {sizes : Sizes} {keys tags keys′ tags′ : List ℕ} {far key tag : ℕ} (said : sizes ≡ sizesOf words) (laid : LaidOut sizes layout) (to : ToBlock place (sizes .order) 0 far)
-      (k : KeyIs far 0 key) (t : TagIs 0 (sizes .order) tag) (pushed : Pushed keys tags keys′ tags′ 0 key tag) where
+  ended : {opened limit : ℕ} {complete : Bool} {best : Best} {r : Searched} (n : Stated best opened limit complete r)
+      → ((set : List ℕ) → Holds words set → n .nearest ≡ values (nearestIn (heldTree words set) (placeCode place) budget))
+      → opened ≤ budget → opened ≤ layout .slots → (1 ≤ budget → RootCannotOpen words → ⊥) → Ended words layout place budget r
+  ended n right spent few shut =
+      record {
+        nearest = n .nearest;
+        is = n .is;
+        right = right;
+        closes = record { to-budget = omega (arith, n .opened-is, spent); to-slots = omega (arith, n .opened-is, few); root-opened = shut };
+      }
+
+  module _ {order : ℕ} {keys tags keys′ tags′ : List ℕ} {far key tag : ℕ} (said : order ≡ sizesOf words .order) (laid : LaidOut (sizesOf words) layout) (to : ToBlock place order 0 far)
+      (k : KeyIs far 0 key) (t : TagIs 0 order tag) (pushed : Pushed keys tags keys′ tags′ 0 key tag) where
     start : (set : List ℕ) (holds : Holds words set) → Reached holds layout place budget keys′ tags′ 1 0 noBest
     start set holds =
         let (es, v) = sound-view words (holds .placed) (holds .sound) in
         let root = root-view words (holds .placed) es (holds .sound) v in
-        let wide = layout-said words said laid in
+        let wide = layout-said words refl laid in
         let is : block (sizesOf words .order) 0 (unlabelled es) empty ≡ heldTree words set =
         sym (ap unlabelled (v .is)) ∙ tree-of-held holds in
         let inside : gather (member set) (sizesOf words .k) (sizesOf words .order) 0 ≡ unlabelled es = cc is in
@@ -91,7 +94,7 @@ module _ {words : List ℕ} {layout : Layout} {place : Place} {budget : ℕ} whe
               small = omega arith;
               elements-are = inside;
               key-is = k .is ∙ ap (λ (d : ℕ). d * keyCodes + 0 / 4) (to .is) ∙ rw said;
-              tag-is = t .is ∙ ap (λ (z : Sizes). tagOf 0 (z .order)) said;
+              tag-is = t .is ∙ ap (tagOf 0) said;
             },
             tt,
           );
@@ -116,7 +119,7 @@ module _ {words : List ℕ} {layout : Layout} {place : Place} {budget : ℕ} whe
                 one-met = refl;
                 below = omega (arith, pushed .one-more (λ e. e .key), k .is, to .below);
                 code-is = omega (arith, pushed .one-more (λ e. e .key), k .is);
-                tag-is = omega (arith, pushed .one-more (λ e. e .tag), t .is, ap (λ (z : Sizes). z .order) said);
+                tag-is = omega (arith, pushed .one-more (λ e. e .tag), t .is, said);
               };
         }
 
@@ -141,32 +144,25 @@ module _ {words : List ℕ} {layout : Layout} {place : Place} {budget : ℕ} whe
           }
 
   module _ {keys tags : List ℕ} {met opened : ℕ} {best : Best} {e : Entry} (a : Aiming words layout place budget keys tags met opened best e) where
-    pub ends-complete : {keyCount tagCount : ℕ} {r : Searched} → opened ≤ budget → opened ≤ layout .slots → best .distance < distanceIn e
-        → Stated best opened (best .distance) true r → SearchMeets words layout place budget keyCount tagCount r
+    pub ends-complete : {r : Searched} → opened ≤ budget → opened ≤ layout .slots → best .distance < distanceIn e → Stated best opened (best .distance) true r
+        → Ended words layout place budget r
     ends-complete spent few l n =
-        rw (n .is) (record {
-          right = λ set holds. values-complete holds layout place budget (a .aimed set holds) l n;
-          closed = λ h shut. absurd (omega (arith, l, a .first shut .below, a .first shut .none-found));
-          opened-to = (omega (arith, n .opened-is, spent), omega (arith, n .opened-is, few));
-        })
+        ended n (λ set holds. values-complete holds layout place budget (a .aimed set holds) l n) spent few
+        (λ h shut. absurd (omega (arith, l, a .first shut .below, a .first shut .none-found)))
 
-    pub ends-spent : {keyCount tagCount : ℕ} {r : Searched} → opened ≤ budget → opened ≤ layout .slots → budget ≤ opened → distanceIn e ≤ best .distance
-        → Stated best opened (distanceIn e) false r → SearchMeets words layout place budget keyCount tagCount r
+    pub ends-spent : {r : Searched} → opened ≤ budget → opened ≤ layout .slots → budget ≤ opened → distanceIn e ≤ best .distance → Stated best opened (distanceIn e) false r
+        → Ended words layout place budget r
     ends-spent spent few h l n =
-        rw (n .is) (record {
-          right = λ set holds. values-spent holds layout place budget (a .aimed set holds) h l n;
-          closed = λ g shut. absurd (omega (arith, g, h, a .first shut .opened-none));
-          opened-to = (omega (arith, n .opened-is, spent), omega (arith, n .opened-is, few));
-        })
+        ended n (λ set holds. values-spent holds layout place budget (a .aimed set holds) h l n) spent few (λ g shut. absurd (omega (arith, g, h, a .first shut .opened-none)))
 
-    module _ {sizes : Sizes} (said : sizes ≡ sizesOf words) (laid : LaidOut sizes layout) where
+    module _ (laid : LaidOut (sizesOf words) layout) where
       root-shut : RootCannotOpen words → Shut layout words e
       root-shut shut =
           let s = a .first shut in
           let slot : e .tag % tagSlots ≡ 0 = omega (arith, s .tag-is) in
           let level : e .tag / tagSlots ≡ sizesOf words .order = omega (arith, s .tag-is) in
           let code : e .key % keyCodes * 4 ≡ 0 = omega (arith, s .code-is) in
-          rw (slot, level, code, layout-said words said laid) shut
+          rw (slot, level, code, layout-said words refl laid) shut
 
       pub goes-further : {keys′ tags′ : List ℕ} {best′ : Best} {n : ℕ} → opened < budget → distanceIn e ≤ best .distance
           → TurnMeets words layout place e opened best keys tags keys′ tags′ met (turn.Opened best′ n) → Going words layout place budget keys′ tags′ n (opened + 1) best′
@@ -176,36 +172,11 @@ module _ {words : List ℕ} {layout : Layout} {place : Place} {budget : ℕ} whe
             first = λ shut. absurd (t .case .4 (root-shut shut));
           }
 
-      pub ends-full : {keys′ tags′ : List ℕ} {keyCount tagCount : ℕ} → length keys ≡ keyCount → length tags ≡ tagCount
-          → TurnMeets words layout place e opened best keys tags keys′ tags′ met turn.Full → SearchMeets words layout place budget keyCount tagCount Full
-      ends-full {keyCount = keyCount} {tagCount = tagCount} kl tl t =
-          record {
-            right = λ set holds. go (few-met holds layout place budget (a .aimed set holds)) (t .case .1);
-            closed = λ h shut. absurd (t .case .0 (root-shut shut));
-            opened-to = tt;
-          }
-        where
-          go : met ≤ layout .slots → (length keys < met + mostElements) ⊎ (length tags < met + mostElements)
-              → (keyCount < layout .slots + mostElements) ⊎ (tagCount < layout .slots + mostElements)
-          go few (inl h) = inl (omega (arith, few, h, kl))
-          go few (inr h) = inr (omega (arith, few, h, tl))
+    pub not-damaged : {keys′ tags′ : List ℕ} → TurnMeets words layout place e opened best keys tags keys′ tags′ met turn.Damaged → (set : List ℕ) → Holds words set → ⊥
+    not-damaged t set holds = let at = a .aimed set holds in t .case _ (at .is) (few-opened holds layout place budget at)
 
-    pub ends-damaged : {keys′ tags′ : List ℕ} {keyCount tagCount : ℕ} → TurnMeets words layout place e opened best keys tags keys′ tags′ met turn.Damaged
-        → SearchMeets words layout place budget keyCount tagCount Damaged
-    ends-damaged t =
-        record {
-          right = λ set holds. let at = a .aimed set holds in t .case _ (at .is) (few-opened holds layout place budget at);
-          closed = λ h shut. refl;
-          opened-to = tt;
-        }
-
-  pub ends-over : {keys tags : List ℕ} {met opened limit : ℕ} {best : Best} {keyCount tagCount : ℕ} {r : Searched} → opened ≤ budget → opened ≤ layout .slots → met ≤ 0
-      → Going words layout place budget keys tags met opened best → DistanceShown (best .distance) limit → Stated best opened limit true r
-      → SearchMeets words layout place budget keyCount tagCount r
+  pub ends-over : {keys tags : List ℕ} {met opened limit : ℕ} {best : Best} {r : Searched} → opened ≤ budget → opened ≤ layout .slots → met ≤ 0
+      → Going words layout place budget keys tags met opened best → DistanceShown (best .distance) limit → Stated best opened limit true r → Ended words layout place budget r
   ends-over {keys} {tags} {met} {opened} {limit} {best} spent few h g d n =
       let none : Going words layout place budget keys tags 0 opened best = subst (λ (n : ℕ). Going words layout place budget keys tags n opened best) (omega arith) g in
-      rw (n .is) (record {
-        right = λ set holds. values-over holds layout place budget (none .reached set holds) d n;
-        closed = λ b shut. absurd (omega (arith, none .first shut .one-met));
-        opened-to = (omega (arith, n .opened-is, spent), omega (arith, n .opened-is, few));
-      })
+      ended n (λ set holds. values-over holds layout place budget (none .reached set holds) d n) spent few (λ b shut. absurd (omega (arith, none .first shut .one-met)))

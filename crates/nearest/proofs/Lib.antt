@@ -8,8 +8,9 @@ pub mod LeastEntries
 pub mod EntryOrder
 pub mod Stating
 pub mod Turns
-pub mod Reached
+pub mod Aimed
 pub mod SearchSteps
 pub mod Going
 pub mod Looping
+pub mod Copying
 pub mod Finding

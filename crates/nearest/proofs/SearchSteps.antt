@@ -20,8 +20,7 @@ use Rattle.searching.specs.Distance.{squaredDistance}
 use Rattle.searching.specs.Search.{blockElements, distanceTo, next, others, Search, search, found, isFarther, allFarther}
 use Rattle.searching.specs.Nearest.{distanceFound, limitOf, nearestBy, nearestIn}
 use Rattle.searching.proofs.Distances.{nearest-position}
-use Rattle.searching.proofs.NextBlock.{chosen-every, chosen-total}
-use Rattle.searching.proofs.OpenedPixels.{heldBy}
+use Rattle.searching.proofs.NextBlock.{chosen-every}
 use Rattle.searching.proofs.Completion.{farther-next, limit-complete, limit-incomplete}
 use Rattle.searching.proofs.TreeBlocks.{Gathered}
 use Rattle.searching.proofs.Pruned.{isNear, keepNext, pruned, pruned-complete, pruned-spent, pruned-on, found-kept, held-kept}
@@ -36,10 +35,11 @@ use Rattle.nearest.specs.Best.{bestOf}
 use Rattle.nearest.specs.Matching.{Matches}
 use Rattle.nearest.specs.Meeting.{frontier, Added}
 use Rattle.nearest.specs.Turns.{distanceIn, Turned}
+use Rattle.nearest.specs.UnderWay.{Reached}
 use Rattle.nearest.specs.Searches.{values, DistanceShown, Stated}
 use Rattle.nearest.proofs.EntryOrder.{distance-told}
 use Rattle.nearest.proofs.Stating.{distance-below, stated-values}
-use Rattle.nearest.proofs.Reached.{matches-join, few-entries, Reached, Aimed}
+use Rattle.nearest.proofs.Aimed.{matches-join, few-entries, Aimed}
 
 -- as many entries as the arrays hold
 queued-count : (keys tags : List ℕ) (n : ℕ) → total (λ e. 1) (queued keys tags n) ≡ n
@@ -127,16 +127,10 @@ module _ {words set : List ℕ} (holds : Holds words set) (layout : Layout) (pla
           counted = omega (arith, held-kept P here, a .counted);
         }
 
-    -- no more blocks are met than there are slots
-    pub few-met : met ≤ layout .slots
-    few-met = omega (
-      arith,
-      queued-count keys tags met,
-      a .same (λ e. 1),
-      few-entries (layout .width) (layout .slots) words P (others P (a .head) (a .rest)) (a .entries) (a .matched),
-      chosen-total P heldBy (a .head) (a .rest),
-      a .counted,
-    )
+  -- no more blocks are met than there are slots
+  pub few-met : {keys tags : List ℕ} {met opened : ℕ} {best : Best} → Reached holds layout place budget keys tags met opened best → met ≤ layout .slots
+  few-met {keys} {tags} {met} q =
+      omega (arith, queued-count keys tags met, q .same (λ e. 1), few-entries (layout .width) (layout .slots) words P (q .state .met) (q .entries) (q .matched), q .counted)
 
   -- nothing is left to open
   pub values-over : {keys tags : List ℕ} {opened limit : ℕ} {best : Best} {r : Searched} → Reached holds layout place budget keys tags 0 opened best → DistanceShown (best .distance) limit

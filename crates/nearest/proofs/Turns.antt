@@ -1,8 +1,7 @@
 -- Each way out of `open_block`.
-use Prim.Native.Nat.{ℕ, _+_, _-_, _≤_, _<_}
+use Prim.Native.Nat.{ℕ, _+_, _≤_}
 use native.Mathlib.Omega.{arith}
 use mathlib.Core.Path.{_≡_, refl, ap, sym, subst, _∙_}
-use mathlib.Core.Logic.{inl, inr}
 use mathlib.Core.Option.{Option}
 use mathlib.Core.List.{List}
 use lib.ListN.{length}
@@ -23,7 +22,7 @@ use Rattle.nearest.specs.declared.best.Best.{Best}
 use Rattle.nearest.specs.declared.distance.Place.{Place}
 use Rattle.nearest.specs.declared.meeting.Meeting.{Meeting}
 use Rattle.nearest.specs.declared.meeting.Meeting.the-variants as meeting
-use Rattle.nearest.specs.declared.search.Turn.the-variants.{Opened, Full, Damaged}
+use Rattle.nearest.specs.declared.search.Turn.the-variants.{Opened, Damaged}
 use Rattle.nearest.specs.Place.{placeCode}
 use Rattle.nearest.specs.Shown.{Shown}
 use Rattle.nearest.specs.Best.{bestOf, AfterElements}
@@ -31,10 +30,6 @@ use Rattle.nearest.specs.Matching.{EntryOf}
 use Rattle.nearest.specs.Meeting.{frontier, Added, MetBlocks, MetCase}
 use Rattle.nearest.specs.Turns.{codeIn, Shut, TurnMeets}
 use Rattle.nearest.proofs.EntryOrder.{level-told, view-told}
-
--- there is room for so many more
-pub room-left : {met count long : ℕ} → met ≤ long → count ≤ long - met → met + count ≤ long
-room-left h g = omega arith
 
 -- what the opened slot says
 module _ (next : Entry) {words : List ℕ} {layout : Layout} {opened : ℕ} {o : Opening} {count : ℕ}
@@ -44,6 +39,10 @@ module _ (next : Entry) {words : List ℕ} {layout : Layout} {opened : ℕ} {o :
 
   few : count ≤ mostElements
   few = next-entered said e .slot-entered .few
+
+  -- there is room for the elements
+  pub room-left : (met : ℕ) {long : ℕ} → met + mostElements ≤ long → met + count ≤ long
+  room-left met h = omega (arith, few, h)
 
   pub next-low : tagLevel (next .tag) ≤ 16
   next-low = omega (arith, next-entered said e .slot-entered .level-below)
@@ -74,12 +73,6 @@ module _ (next : Entry) {words : List ℕ} {layout : Layout} {place : Place} {op
       }
 
   module _ {count : ℕ} (e : o ≡ opening.Elements count) where
-    pub turn-full : met ≤ length keys → length keys - met < count → TurnMeets words layout place next opened best keys tags keys tags met Full
-    turn-full long h = record { keys-long = refl; tags-long = refl; case = (not-shut next said e, inl (omega (arith, long, h, few next said e))) }
-
-    pub turn-full-too : met ≤ length tags → length tags - met < count → TurnMeets words layout place next opened best keys tags keys tags met Full
-    turn-full-too long h = record { keys-long = refl; tags-long = refl; case = (not-shut next said e, inr (omega (arith, long, h, few next said e))) }
-
     module _ {part keys′ tags′ : List ℕ} {nearest : Best} {r : Meeting} (part-is : part ≡ slotPart (layout .width) words (tagSlot (next .tag)))
         (after : AfterElements place best part count nearest) (blocks : MetBlocks part count (tagLevel (next .tag)) place (nearest .distance) keys tags keys′ tags′ met r) where
       found : (b : BlockOf) (is : EntryOf (layout .width) (layout .slots) words (placeCode place) b next) (o : Option ℕ) → best ≡ bestOf (placeCode place) o
@@ -91,17 +84,17 @@ module _ (next : Entry) {words : List ℕ} {layout : Layout} {place : Place} {op
       case-is : {m : Meeting} → r ≡ m → MetCase part count (tagLevel (next .tag)) place (nearest .distance) (frontier keys tags met) keys′ tags′ m
       case-is f = subst (MetCase part count (tagLevel (next .tag)) place (nearest .distance) (frontier keys tags met) keys′ tags′) f (blocks .case)
 
-      pub turn-opened : {n : ℕ} → r ≡ meeting.Upto n → met ≤ length keys → count ≤ length keys - met → met ≤ length tags → count ≤ length tags - met
+      pub turn-opened : {n : ℕ} → r ≡ meeting.Upto n → met + mostElements ≤ length keys → met + mostElements ≤ length tags
           → TurnMeets words layout place next opened best keys tags keys′ tags′ met (Opened nearest n)
-      turn-opened {n} f long room long′ room′ =
+      turn-opened {n} f room room′ =
           let m = case-is f in
           record {
             keys-long = blocks .keys-long;
             tags-long = blocks .tags-long;
             case = (
               next-entered said e .room,
-              omega (arith, m .0, long, room),
-              omega (arith, m .0, long′, room′),
+              omega (arith, m .0, few next said e, room),
+              omega (arith, m .0, few next said e, room′),
               m .1,
               not-shut next said e,
               record {

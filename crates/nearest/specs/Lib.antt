@@ -4,4 +4,5 @@ pub mod Best
 pub mod Matching
 pub mod Meeting
 pub mod Turns
+pub mod UnderWay
 pub mod Searches

@@ -2,9 +2,9 @@
 use Prim.Native.Nat.{ℕ, _+_, _≤_, _<_}
 use mathlib.Core.Path.{_≡_}
 use mathlib.Core.Bool.{Bool}
-use mathlib.Core.Logic.{_⊎_}
 use mathlib.Core.Option.{Option}
 use mathlib.Core.List.{List}
+use lib.ListN.{length}
 use Rattle.pktree.specs.Elements.{Forest}
 use Rattle.measures.specs.declared.sizes.Layout.{Layout}
 use Rattle.measures.specs.Layout.{mostElements, mostSlots}
@@ -23,6 +23,7 @@ use Rattle.nearest.specs.declared.search.Searched.{Searched}
 use Rattle.nearest.specs.declared.search.Searched.the-variants.{Known, Full, Damaged}
 use Rattle.nearest.specs.Place.{placeCode}
 use Rattle.nearest.specs.Best.{bestOf}
+use Rattle.nearest.specs.UnderWay.{UnderWay}
 
 -- 02's six values as the code returns them
 abbrev pub values : searching.Nearest → Nearest
@@ -30,7 +31,7 @@ values n = record { found = n .isFound; code = n .code; distance = n .distance; 
 
 -- the places for the blocks met and not opened at one time
 abbrev pub fewPlaces : ℕ
-fewPlaces = 128
+fewPlaces = 256
 
 abbrev pub manyPlaces : ℕ
 manyPlaces = mostSlots + mostElements
@@ -38,12 +39,12 @@ manyPlaces = mostSlots + mostElements
 -- where many places are too few, the words are damaged
 abbrev pub neverFull : Searched → Searched
 neverFull (Known nearest) = Known nearest
-neverFull Full = Damaged
+neverFull (Full at) = Damaged
 neverFull Damaged = Damaged
 
 abbrev pub answerOf : Searched → Searching
 answerOf (Known nearest) = Ended nearest
-answerOf Full = Refused StoreDamaged
+answerOf (Full at) = Refused StoreDamaged
 answerOf Damaged = Refused StoreDamaged
 
 -- the zeros where nothing was found
@@ -57,18 +58,40 @@ pub record Stated (best : Best) (opened limit : ℕ) (complete : Bool) (r : Sear
   pub says : (place : ℕ) (o : Option ℕ) → best ≡ bestOf place o
       → nearest ≡ record { found = isSome o; code = codeFound o; distance = distanceFound place o; opened = opened; limit = limit; complete = complete }
 
-abbrev pub SearchRight : Forest → ℕ → ℕ → ℕ → ℕ → ℕ → Searched → Type 0
-SearchRight tree place budget keyCount tagCount slots (Known n) = n ≡ values (nearestIn tree place budget)
-SearchRight tree place budget keyCount tagCount slots Full = (keyCount < slots + mostElements) ⊎ (tagCount < slots + mostElements)
-SearchRight tree place budget keyCount tagCount slots Damaged = ⊥
+-- on a sound store: full only among fewer places than the slots need
+abbrev pub SearchRight : Forest → ℕ → ℕ → ℕ → ℕ → Searched → Type 0
+SearchRight tree place budget places slots (Known n) = n ≡ values (nearestIn tree place budget)
+SearchRight tree place budget places slots (Full at) = places < slots + mostElements
+SearchRight tree place budget places slots Damaged = ⊥
 
--- on any words
-abbrev pub OpenedTo : ℕ → ℕ → Searched → Type 0
-OpenedTo budget slots (Known n) = (n .opened ≤ budget) × (n .opened ≤ slots)
-OpenedTo budget slots Full = Unit {0}
-OpenedTo budget slots Damaged = Unit {0}
+-- on any words: the values of a search that ended
+pub record Closes (words : List ℕ) (slots budget opened : ℕ) : Type 0 where
+  pub to-budget : opened ≤ budget
+  pub to-slots : opened ≤ slots
+  pub root-opened : 1 ≤ budget → RootCannotOpen words → ⊥
 
-pub record SearchMeets (words : List ℕ) (layout : Layout) (place : Place) (budget keyCount tagCount : ℕ) (r : Searched) : Type 0 where
-  pub right : (set : List ℕ) → Holds words set → SearchRight (heldTree words set) (placeCode place) budget keyCount tagCount (layout .slots) r
-  pub closed : 1 ≤ budget → RootCannotOpen words → r ≡ Damaged
-  pub opened-to : OpenedTo budget (layout .slots) r
+-- where it stopped for want of room, it can go on
+abbrev pub SearchCase : List ℕ → Layout → Place → ℕ → List ℕ → List ℕ → Searched → Type 0
+SearchCase words layout place budget keys tags (Known n) = Closes words (layout .slots) budget (n .opened)
+SearchCase words layout place budget keys tags (Full at) = UnderWay words layout place budget keys tags at
+SearchCase words layout place budget keys tags Damaged = Unit {0}
+
+pub record SearchMeets (words : List ℕ) (layout : Layout) (place : Place) (budget : ℕ) (keys keys′ tags′ : List ℕ) (r : Searched) : Type 0 where
+  pub keys-long : length keys′ ≡ length keys
+  pub right : (set : List ℕ) → Holds words set → SearchRight (heldTree words set) (placeCode place) budget (length keys) (layout .slots) r
+  pub case : SearchCase words layout place budget keys′ tags′ r
+
+-- a search that went on to its end
+abbrev pub EndRight : Forest → ℕ → ℕ → Searched → Type 0
+EndRight tree place budget (Known n) = n ≡ values (nearestIn tree place budget)
+EndRight tree place budget (Full at) = ⊥
+EndRight tree place budget Damaged = ⊥
+
+abbrev pub EndCase : List ℕ → ℕ → ℕ → Searched → Type 0
+EndCase words slots budget (Known n) = Closes words slots budget (n .opened)
+EndCase words slots budget (Full at) = Unit {0}
+EndCase words slots budget Damaged = Unit {0}
+
+pub record SearchEnds (words : List ℕ) (layout : Layout) (place : Place) (budget : ℕ) (r : Searched) : Type 0 where
+  pub right : (set : List ℕ) → Holds words set → EndRight (heldTree words set) (placeCode place) budget r
+  pub case : EndCase words (layout .slots) budget r

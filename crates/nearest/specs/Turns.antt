@@ -1,13 +1,11 @@
 -- What opening the next block does.
-use Prim.Native.Nat.{ℕ, _+_, _*_, _/_, _%_, _≤_, _<_}
+use Prim.Native.Nat.{ℕ, _*_, _/_, _%_, _≤_, _<_}
 use mathlib.Core.Path.{_≡_}
-use mathlib.Core.Logic.{_⊎_}
 use mathlib.Core.Option.{Option}
 use mathlib.Core.List.{List}
 use lib.ListN.{length}
 use Rattle.pktree.specs.Tree.{BlockOf}
 use Rattle.measures.specs.declared.sizes.Layout.{Layout}
-use Rattle.measures.specs.Layout.{mostElements}
 use Rattle.store.specs.Element.{tagSlot, tagLevel}
 use Rattle.store.specs.Opening.{CannotOpen}
 use Rattle.searching.specs.Search.{pixelElements, nearestOf}
@@ -16,7 +14,7 @@ use Rattle.frontier.specs.Entries.{Heap}
 use Rattle.nearest.specs.declared.best.Best.{Best}
 use Rattle.nearest.specs.declared.distance.Place.{Place}
 use Rattle.nearest.specs.declared.search.Turn.{Turn}
-use Rattle.nearest.specs.declared.search.Turn.the-variants.{Opened, Full, Damaged}
+use Rattle.nearest.specs.declared.search.Turn.the-variants.{Opened, Damaged}
 use Rattle.nearest.specs.Place.{placeCode}
 use Rattle.nearest.specs.Best.{bestOf}
 use Rattle.nearest.specs.Matching.{keyCodes, EntryOf}
@@ -44,8 +42,6 @@ abbrev pub TurnCase : List ℕ → Layout → Place → Entry → ℕ → Best �
 TurnCase words layout place next opened best keys tags met keys′ tags′ (Opened best′ met′) =
     (opened < layout .slots) × (met′ ≤ length keys) × (met′ ≤ length tags) × Heap keys′ met′ × (Shut layout words next → ⊥)
     × Turned words layout (placeCode place) next best keys tags met best′ keys′ tags′ met′
-TurnCase words layout place next opened best keys tags met keys′ tags′ Full =
-    (Shut layout words next → ⊥) × ((length keys < met + mostElements) ⊎ (length tags < met + mostElements))
 TurnCase words layout place next opened best keys tags met keys′ tags′ Damaged =
     (b : BlockOf) → EntryOf (layout .width) (layout .slots) words (placeCode place) b next → opened < layout .slots → ⊥
 

@@ -1,3 +1,4 @@
+ghost use Prim.Native.Nat.{_≤_};
 ghost use mathlib.Core.Path.{_≡_};
 ghost use lib.ListN.{length};
 ghost use Rattle.measures.specs.Layout.{LayoutFits, LaidOut};
@@ -6,10 +7,14 @@ ghost use Rattle.promises.specs.Calls.{FindsNearest};
 ghost use Rattle.promises.specs.Effect.{effect};
 ghost use Rattle.answers.specs.Answer.{searchAnswer};
 ghost use Rattle.nearest.specs.Place.{OnGrid};
-ghost use Rattle.nearest.specs.Searches.{SearchMeets, fewPlaces, manyPlaces, neverFull, answerOf};
+ghost use Rattle.nearest.specs.UnderWay.{UnderWay, EntriesCopied};
+ghost use Rattle.nearest.specs.Searches.{SearchEnds, fewPlaces, manyPlaces, neverFull, answerOf};
 use crate::distance::Place;
 use crate::distance::place_of;
+use crate::search::AT_ROOT;
+use crate::search::Progress;
 use crate::search::Searched;
+use crate::search::meet_root;
 use crate::search::search;
 use answers::Refusal;
 use answers::Searching;
@@ -20,7 +25,7 @@ use measures::sizes::layout_of;
 use measures::slots::MOST_ELEMENTS;
 
 // Places for the blocks met and not opened at one time: nearly every search has fewer.
-const FEW_PLACES: usize = 128;
+const FEW_PLACES: usize = 256;
 
 // No sound store has more blocks than 01's largest N, and before a block is opened there is room for all of its elements.
 const MANY_PLACES: usize = LARGEST_MOST as usize + MOST_ELEMENTS;
@@ -49,34 +54,48 @@ fn many_tags() -> [u32; MANY_PLACES]
     [0u32; MANY_PLACES]
 }
 
-fn search_among_few(
-    store: &[u32],
-    sizes: Sizes,
-    layout: Layout,
-    place: Place,
-    budget: u32,
-) -> Searched
-    requires { ⌜ ((UsableStore (now store) × (sizes ≡ sizesOf (now store))) × LaidOut sizes layout × LayoutFits layout (now store)) × OnGrid place ⌝ }
-    ensures { λ r. ⌜ SearchMeets (now (store .entry)) layout place budget fewPlaces fewPlaces r ⌝ }
+// The first so many entries, into other arrays.
+fn copy_entries(
+    keys: &[u64],
+    tags: &[u32],
+    more_keys: &mut [u64],
+    more_tags: &mut [u32],
+    met: usize,
+)
+    requires { ⌜ ((met ≤ length (now keys)) × (met ≤ length (now tags))) × (met ≤ length (now «more_keys»)) × (met ≤ length (now «more_tags»)) ⌝ }
+    ensures { λ _. ⌜ EntriesCopied (now (keys .entry)) (now (tags .entry)) (now («more_keys» .entry)) (now («more_tags» .entry)) (now («more_keys» .exit)) (now («more_tags» .exit)) met ⌝ }
 {
-    let mut keys = few_keys();
-    let mut tags = few_tags();
-    search(store, sizes, layout, place, budget, &mut keys, &mut tags)
+    for i in 0..met {
+        more_keys[i] = keys[i];
+        more_tags[i] = tags[i];
+    }
 }
 
+// The search goes on among as many places as any store needs, with the entries copied, so that no block is opened twice.
 fn search_among_many(
     store: &[u32],
-    sizes: Sizes,
     layout: Layout,
     place: Place,
     budget: u32,
+    keys: &[u64],
+    tags: &[u32],
+    from: Progress,
 ) -> Searched
-    requires { ⌜ ((UsableStore (now store) × (sizes ≡ sizesOf (now store))) × LaidOut sizes layout × LayoutFits layout (now store)) × OnGrid place ⌝ }
-    ensures { λ r. ⌜ SearchMeets (now (store .entry)) layout place budget manyPlaces manyPlaces r ⌝ }
+    requires { ⌜ (LaidOut (sizesOf (now store)) layout × LayoutFits layout (now store) × OnGrid place × UnderWay (now store) layout place budget (now keys) (now tags) from) × (length (now keys) ≤ manyPlaces) ⌝ }
+    ensures { λ r. ⌜ SearchEnds (now (store .entry)) layout place budget r ⌝ }
 {
-    let mut keys = many_keys();
-    let mut tags = many_tags();
-    search(store, sizes, layout, place, budget, &mut keys, &mut tags)
+    let mut more_keys = many_keys();
+    let mut more_tags = many_tags();
+    copy_entries(keys, tags, &mut more_keys, &mut more_tags, from.met);
+    search(
+        store,
+        layout,
+        place,
+        budget,
+        &mut more_keys,
+        &mut more_tags,
+        from,
+    )
 }
 
 // As many places as there can be slots are too few on damaged words only.
@@ -85,35 +104,37 @@ fn never_full(searched: Searched) -> Searched
 {
     match searched {
         Searched::Known(nearest) => Searched::Known(nearest),
-        Searched::Full => Searched::Damaged,
+        Searched::Full(_) => Searched::Damaged,
         Searched::Damaged => Searched::Damaged,
     }
 }
 
-// The search among at least so many places, and again among as many as the slots need where these are too few. It calls itself, so that the compiler
+// The search from there, in these arrays if they have at least so many places, and on among as many as the slots need. It calls itself, so that the compiler
 // keeps the many places out of every search's frame, where they would cost more than the search.
-fn search_within(
+fn search_from(
     store: &[u32],
-    sizes: Sizes,
     layout: Layout,
     place: Place,
     budget: u32,
+    keys: &mut [u64],
+    tags: &mut [u32],
+    from: Progress,
     places: usize,
 ) -> Searched
-    requires { ⌜ ((UsableStore (now store) × (sizes ≡ sizesOf (now store))) × LaidOut sizes layout × LayoutFits layout (now store)) × OnGrid place ⌝ }
-    ensures { λ r. ⌜ SearchMeets (now (store .entry)) layout place budget manyPlaces manyPlaces r ⌝ }
+    requires { ⌜ (LaidOut (sizesOf (now store)) layout × LayoutFits layout (now store) × OnGrid place × UnderWay (now store) layout place budget (now keys) (now tags) from) × (length (now keys) ≤ manyPlaces) ⌝ }
+    ensures { λ r. ⌜ SearchEnds (now (store .entry)) layout place budget r ⌝ }
 {
-    if FEW_PLACES < places {
-        return search_among_many(store, sizes, layout, place, budget);
+    if keys.len() < places {
+        return search_among_many(store, layout, place, budget, keys, tags, from);
     }
-    match search_among_few(store, sizes, layout, place, budget) {
+    match search(store, layout, place, budget, keys, tags, from) {
         Searched::Known(nearest) => Searched::Known(nearest),
-        Searched::Full => {
+        Searched::Full(progress) => {
             let needed = layout.slots + MOST_ELEMENTS;
-            if needed <= FEW_PLACES {
+            if needed <= keys.len() {
                 return Searched::Damaged;
             }
-            never_full(search_within(store, sizes, layout, place, budget, needed))
+            never_full(search_from(store, layout, place, budget, keys, tags, progress, needed))
         }
         Searched::Damaged => Searched::Damaged,
     }
@@ -124,7 +145,7 @@ fn answer_of(searched: Searched) -> Searching
 {
     match searched {
         Searched::Known(nearest) => Searching::Ended(nearest),
-        Searched::Full => Searching::Refused(Refusal::StoreDamaged),
+        Searched::Full(_) => Searching::Refused(Refusal::StoreDamaged),
         Searched::Damaged => Searching::Refused(Refusal::StoreDamaged),
     }
 }
@@ -139,5 +160,17 @@ pub fn find_nearest(store: &[u32], sizes: Sizes, code: u32, budget: u32) -> Sear
     }
     let layout = layout_of(sizes);
     let place = place_of(code);
-    answer_of(search_within(store, sizes, layout, place, budget, FEW_PLACES))
+    let mut keys = few_keys();
+    let mut tags = few_tags();
+    meet_root(sizes.order, place, &mut keys, &mut tags);
+    answer_of(search_from(
+        store,
+        layout,
+        place,
+        budget,
+        &mut keys,
+        &mut tags,
+        AT_ROOT,
+        FEW_PLACES,
+    ))
 }

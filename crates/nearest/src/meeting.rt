@@ -9,6 +9,7 @@ use crate::distance::Place;
 use crate::distance::block_distance;
 use frontier::push;
 use store::elements::Element;
+use store::elements::TAG_SLOTS;
 use store::elements::element_at;
 
 // After some elements: the blocks met are now so many; or the words are damaged.
@@ -17,19 +18,22 @@ pub enum Meeting {
     Damaged,
 }
 
-// By distance, then by code: a block's code is a multiple of 4, so that the key has 63 bits.
+// A block's code is a multiple of 4: a key has room for a fourth of the codes below the distance.
+pub const KEY_CODES: u64 = 1073741824;
+
+// By distance, then by code; it has 63 bits.
 pub fn key_of(distance: u64, code: u32) -> u64
     requires { ⌜ distance < beyond ⌝ }
     ensures { λ r. ⌜ KeyIs distance code r ⌝ }
 {
-    distance * 1073741824 + (code / 4) as u64
+    distance * KEY_CODES + (code / 4) as u64
 }
 
 pub fn tag_of(slot: u32, level: u32) -> u32
     requires { ⌜ (slot < tagSlots) × (level ≤ 16) ⌝ }
     ensures { λ r. ⌜ TagIs slot level r ⌝ }
 {
-    slot + level * 1048576
+    slot + level * TAG_SLOTS
 }
 
 // A block farther than the pixel found is not kept: it will never be opened, nor be the limit.
@@ -51,7 +55,7 @@ fn meet_element(
     if above <= level {
         return Meeting::Damaged;
     }
-    if 1048576 <= slot {
+    if TAG_SLOTS <= slot {
         return Meeting::Damaged;
     }
     let distance = block_distance(place, level, code);

@@ -1,11 +1,12 @@
-ghost use Prim.Native.Nat.{_≤_, _<_};
+ghost use Prim.Native.Nat.{_+_, _≤_};
 ghost use mathlib.Core.Path.{_≡_};
 ghost use lib.ListN.{length};
-ghost use Rattle.measures.specs.Layout.{LayoutFits, LaidOut};
-ghost use Rattle.measures.specs.Sizes.{UsableStore, sizesOf};
+ghost use Rattle.measures.specs.Layout.{LayoutFits, LaidOut, mostElements};
+ghost use Rattle.measures.specs.Sizes.{sizesOf};
 ghost use Rattle.frontier.specs.Entries.{Heap};
 ghost use Rattle.nearest.specs.Place.{OnGrid};
 ghost use Rattle.nearest.specs.Turns.{TurnMeets};
+ghost use Rattle.nearest.specs.UnderWay.{UnderWay, RootMet};
 ghost use Rattle.nearest.specs.Searches.{DistanceShown, Stated, SearchMeets};
 use crate::best::BEYOND;
 use crate::best::Best;
@@ -13,6 +14,7 @@ use crate::best::NOTHING;
 use crate::best::after_elements;
 use crate::distance::Place;
 use crate::distance::block_distance;
+use crate::meeting::KEY_CODES;
 use crate::meeting::Meeting;
 use crate::meeting::key_of;
 use crate::meeting::meet_blocks;
@@ -22,19 +24,20 @@ use frontier::Entry;
 use frontier::push;
 use frontier::take_least;
 use measures::sizes::Layout;
-use measures::sizes::Sizes;
 use measures::slots::LEVEL_ABOVE_ROOT;
+use measures::slots::MOST_ELEMENTS;
 use query::walk::open_next;
+use store::elements::TAG_SLOTS;
 use store::opening::Opening;
 use walks::part_of;
 
 // One block opened: the nearest pixel and the number of blocks met after it.
 pub enum Turn {
     Opened(Best, usize),
-    Full,
     Damaged,
 }
 
+// There is room for all of its elements.
 fn open_block(
     store: &[u32],
     layout: Layout,
@@ -46,22 +49,16 @@ fn open_block(
     tags: &mut [u32],
     met: usize,
 ) -> Turn
-    requires { ⌜ LayoutFits layout (now store) × OnGrid place × (met ≤ length (now keys)) × (met ≤ length (now tags)) × Heap (now keys) met ⌝ }
+    requires { ⌜ LayoutFits layout (now store) × OnGrid place × (met + mostElements ≤ length (now keys)) × (met + mostElements ≤ length (now tags)) × Heap (now keys) met ⌝ }
     ensures { λ r. ⌜ TurnMeets (now (store .entry)) layout place next opened best (now (keys .entry)) (now (tags .entry)) (now (keys .exit)) (now (tags .exit)) met r ⌝ }
 {
-    let slot = next.tag % 1048576;
-    let level = next.tag / 1048576;
-    let code = (next.key % 1073741824 * 4) as u32;
+    let slot = next.tag % TAG_SLOTS;
+    let level = next.tag / TAG_SLOTS;
+    let code = (next.key % KEY_CODES * 4) as u32;
     let above = LEVEL_ABOVE_ROOT;
     let Opening::Elements(count) = open_next(store, layout, above, slot, level, code, opened) else {
         return Turn::Damaged;
     };
-    if keys.len() - met < count {
-        return Turn::Full;
-    }
-    if tags.len() - met < count {
-        return Turn::Full;
-    }
     let part = part_of(store, layout, slot);
     let nearest = after_elements(place, best, part, count);
     match meet_blocks(part, count, level, place, nearest.distance, keys, tags, met) {
@@ -70,9 +67,17 @@ fn open_block(
     }
 }
 
+// How far a search is: the blocks met and not opened, which the arrays hold, those opened, and the nearest pixel.
+pub struct Progress {
+    pub met: usize,
+    pub opened: u32,
+    pub best: Best,
+}
+
+// The search ended; or it stopped for want of room, and can go on from there; or the words are damaged.
 pub enum Searched {
     Known(Nearest),
-    Full,
+    Full(Progress),
     Damaged,
 }
 
@@ -96,28 +101,45 @@ fn known(best: Best, opened: u32, limit: u64, complete: bool) -> Searched
     })
 }
 
-// The search from the root, with room for as many met blocks as the two arrays have places.
+// How far a search is where it begins: the root is met.
+pub const AT_ROOT: Progress = Progress {
+    met: 1,
+    opened: 0,
+    best: NOTHING,
+};
+
+// The first entry of a search, in empty arrays.
+pub fn meet_root(order: u32, place: Place, keys: &mut [u64], tags: &mut [u32])
+    requires { ⌜ (order ≤ 16) × OnGrid place × (1 ≤ length (now keys)) × (length (now tags) ≡ length (now keys)) ⌝ }
+    ensures { λ _. ⌜ RootMet order place (now (keys .entry)) (now (keys .exit)) (now (tags .exit)) ⌝ }
+{
+    let to_root = block_distance(place, order, 0);
+    push(keys, tags, 0, key_of(to_root, 0), tag_of(0, order));
+}
+
+// The search goes on from there, until it ends or there may be no room for the elements of the next block.
 pub fn search(
     store: &[u32],
-    sizes: Sizes,
     layout: Layout,
     place: Place,
     budget: u32,
     keys: &mut [u64],
     tags: &mut [u32],
+    from: Progress,
 ) -> Searched
-    requires { ⌜ ((UsableStore (now store) × (sizes ≡ sizesOf (now store))) × LaidOut sizes layout × LayoutFits layout (now store)) × OnGrid place × (1 ≤ length (now keys)) × (1 ≤ length (now tags)) ⌝ }
-    ensures { λ r. ⌜ SearchMeets (now (store .entry)) layout place budget (length (now (keys .entry))) (length (now (tags .entry))) r ⌝ }
+    requires { ⌜ LaidOut (sizesOf (now store)) layout × LayoutFits layout (now store) × OnGrid place × UnderWay (now store) layout place budget (now keys) (now tags) from ⌝ }
+    ensures { λ r. ⌜ SearchMeets (now (store .entry)) layout place budget (now (keys .entry)) (now (keys .exit)) (now (tags .exit)) r ⌝ }
 {
-    let to_root = block_distance(place, sizes.order, 0);
-    push(keys, tags, 0, key_of(to_root, 0), tag_of(0, sizes.order));
-    let mut met: usize = 1;
-    let mut opened: u32 = 0;
-    let mut best = NOTHING;
+    let mut met = from.met;
+    let mut opened = from.opened;
+    let mut best = from.best;
     while 0 < met {
+        if keys.len() - met < MOST_ELEMENTS {
+            return Searched::Full(Progress { met, opened, best });
+        }
         let next = take_least(keys, tags, met);
         met -= 1;
-        let distance = next.key / 1073741824;
+        let distance = next.key / KEY_CODES;
         if best.distance < distance {
             return known(best, opened, best.distance, true);
         }
@@ -130,7 +152,6 @@ pub fn search(
                 met = n;
                 opened += 1;
             }
-            Turn::Full => return Searched::Full,
             Turn::Damaged => return Searched::Damaged,
         }
     }

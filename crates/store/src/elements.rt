@@ -21,7 +21,7 @@ pub enum Element {
 }
 
 // The tag of a block's element has its slot below this number and its level above it.
-const TAG_SLOTS: u32 = 1048576;
+pub const TAG_SLOTS: u32 = 1048576;
 
 // A block's element as its second word.
 pub fn block_tag(slot: u32, level: u32) -> u32

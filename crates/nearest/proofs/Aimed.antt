@@ -1,4 +1,4 @@
--- Where a search on a sound store is: the blocks met and opened, what is left of the budget, and that the answer is still the same.
+-- Where a search on a sound store is when the least entry is taken out: the block to open next, and that the answer is still the same.
 use Prim.Native.Nat.{ℕ, _+_, _-_, _≤_}
 use native.Mathlib.Omega.{arith}
 use mathlib.Core.Path.{_≡_, refl, sym, subst}
@@ -11,7 +11,7 @@ use Rattle.measures.specs.declared.sizes.Layout.{Layout}
 use Rattle.measures.specs.Sizes.{panelOf, sizesOf}
 use Rattle.store.specs.Sound.{Holds}
 use Rattle.walks.proofs.RootWalk.{heldTree}
-use Rattle.searching.specs.Search.{next, others, Search, search, found}
+use Rattle.searching.specs.Search.{next, others, search, found}
 use Rattle.searching.specs.Nearest.{nearestBy, nearestIn}
 use Rattle.searching.proofs.OpenedPixels.{heldBy}
 use Rattle.searching.proofs.Pruned.{pruned}
@@ -23,6 +23,7 @@ use Rattle.nearest.specs.declared.distance.Place.{Place}
 use Rattle.nearest.specs.Place.{placeCode}
 use Rattle.nearest.specs.Best.{bestOf}
 use Rattle.nearest.specs.Matching.{EntryOf, Matches}
+use Rattle.nearest.specs.UnderWay.{Reached}
 use Rattle.nearest.proofs.LeastEntries.{TakenFrom, least-taken, rest-taken}
 use Rattle.nearest.proofs.EntryOrder.{matches-next, keys-apart}
 
@@ -58,21 +59,6 @@ module _ {words set : List ℕ} (holds : Holds words set) (layout : Layout) (pla
   abbrev valid : Valid panel
   valid = holds .sound .usable .valid .panel
 
-  -- where a search is, when the arrays hold so many entries
-  pub record Reached (keys tags : List ℕ) (met opened : ℕ) (best : Best) : Type 0 where
-    pub state : Search
-    pub entries : List Entry
-    pub matched : Matches (layout .width) (layout .slots) words P (state .met) entries
-    pub same : (number : Entry → ℕ) → total number (queued keys tags met) ≡ total number entries
-    pub spread : Spread panel set valid P (state .met)
-    pub best-is : best ≡ bestOf P (found P state)
-    pub opened-is : length (state .opened) ≡ opened
-    pub left : ℕ
-    pub spends : opened + left ≡ budget
-    pub answers : nearestBy P (pruned P left state) ≡ nearestIn (heldTree words set) P budget
-    pub counted : length (state .opened) + total heldBy (state .met) ≤ layout .slots
-
-  -- where it is when the least entry is taken out
   pub record Aimed (keys tags : List ℕ) (met opened : ℕ) (best : Best) (e : Entry) : Type 0 where
     pub head : BlockOf
     pub rest : List BlockOf
@@ -89,7 +75,7 @@ module _ {words set : List ℕ} (holds : Holds words set) (layout : Layout) (pla
     pub answers : nearestBy P (pruned P left (search (head ∷ rest) done)) ≡ nearestIn (heldTree words set) P budget
     pub counted : length done + total heldBy (head ∷ rest) ≤ layout .slots
 
-  pub aim : {keys tags keys′ tags′ : List ℕ} {met opened : ℕ} {best : Best} {e : Entry} → Reached keys tags met opened best → Taken keys tags keys′ tags′ met e
+  pub aim : {keys tags keys′ tags′ : List ℕ} {met opened : ℕ} {best : Best} {e : Entry} → Reached holds layout place budget keys tags met opened best → Taken keys tags keys′ tags′ met e
       → Aimed keys′ tags′ (met - 1) opened best e
   aim {keys} {tags} {keys′} {tags′} {met} {opened} {best} {e} r taken =
       go (r .state .met) (r .state .opened) (r .entries) (r .matched) (r .same) (r .spread) (r .best-is) (r .opened-is) (r .answers) (r .counted)
