@@ -11,12 +11,12 @@ use Rattle.pktree.specs.PixelSet.{Ascending, PixelSet}
 use Rattle.pktree.specs.Window.{Window, Ordered}
 use Rattle.pktree.proofs.Parts.{WhollyOff, empty-exactly}
 use Rattle.measures.specs.Sizes.{panelOf, sizesOf, storeWords, ValidSizes, UsableStore}
-use Rattle.promises.specs.Effect.{HasPixelOn, Effect, effect, passed, stopped, OfPixel, OfWindow, OfPart}
+use Rattle.promises.specs.Effect.{HasPixelOn, Effect, effect, passed, stopped, OfPixel, OfWindow, OfPart, Unchanged}
 use Rattle.image.specs.Judged.{WellFormed, FitsRegister, ImageOfSome}
 use Rattle.image.specs.Held.{HasImage, SomeHasImage, panelIn, mostIn}
 use Rattle.image.proofs.Accepted.{image-well-formed, image-fits, image-of-some, one-set}
 use Rattle.promises.specs.Answer.{Answer, accepted, refused}
-use Rattle.promises.specs.Walk.{Walks}
+use Rattle.promises.specs.Walk.{Walks, Searches}
 use Rattle.promises.specs.Change.{Becomes}
 use Rattle.promises.specs.Output.{WrittenOrShort}
 use Rattle.promises.specs.Calls.{asked, MakeMeets, MarkMeets, ClearMeets, Loaded, LoadMeets, FillMeets, AskMeets, NearestMeets, windowGiven, CountMeets, ListMeets, SaveMeets, CheckMeets}
@@ -99,11 +99,14 @@ pub record NearestRefusals (words : List ℕ) (x y budget : ℕ) (a : Answer) : 
   pub off-panel : (a .refusal ≡ 4) ↔ (UsableStore words × (HasPixelOn words x y → ⊥))
   pub no-budget : (a .refusal ≡ 15) ↔ (UsableStore words × (HasPixelOn words x y × (1 ≤ budget → ⊥)))
 
+search-number : {words : List ℕ} {opened : ℕ} {Right : List ℕ → Effect → Type 0} {e : Effect} → Walks words (Searches opened) Unchanged Right e → OfWalk (e .answer .refusal)
+search-number w = walk-number (λ s. accepted-number (s .ended)) w
+
 pub nearest-refusals : {words : List ℕ} {x y budget : ℕ} {a : Answer} → NearestMeets words x y budget a → NearestRefusals words x y budget a
 nearest-refusals m = record {
-  unusable = exactly (never (omega arith) (never (omega arith) (λ w. walk-number (λ s. accepted-number (s .ended)) w .0))) m;
-  off-panel = then-exactly (omega arith) (exactly (never (omega arith) (λ w. walk-number (λ s. accepted-number (s .ended)) w .1))) m;
-  no-budget = then-exactly (omega arith) (then-exactly (omega arith) (exactly (λ w. walk-number (λ s. accepted-number (s .ended)) w .3))) m;
+  unusable = exactly (never (omega arith) (never (omega arith) (λ w. search-number w .0))) m;
+  off-panel = then-exactly (omega arith) (exactly (never (omega arith) (λ w. search-number w .1))) m;
+  no-budget = then-exactly (omega arith) (then-exactly (omega arith) (exactly (λ w. search-number w .3))) m;
 }
 
 module _ {words : List ℕ} {x0 y0 x1 y1 : ℕ} {a : Answer} where
