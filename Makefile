@@ -80,7 +80,7 @@ soak: lib
 	$(PYTHON) tests/differential.py --seed $(SEED) --histories 8000
 
 # Debian's libboost-dev, libroaring-dev and valgrind; popcnt lets the bitmap count a word by one instruction.
-build/bench: bench/bench.cpp bench/nearest.hpp bench/sets.hpp bench/build.hpp bench/workload.hpp build/libpkreg.a build/pkreg.h
+build/bench: bench/bench.cpp $(wildcard bench/*.hpp) build/libpkreg.a build/pkreg.h
 	$(CXX) -std=c++17 $(CFLAGS) -mpopcnt -DBOOST_ALLOW_DEPRECATED_HEADERS -Ibuild -o $@ $< build/libpkreg.a -lroaring
 
 bench: build/bench

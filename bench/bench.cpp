@@ -1,8 +1,8 @@
-// Times the calls of pkreg beside five other sets of pixels on the same seeded work, and stops if any of them finds another number.
-// Usage: bench [--pixels N] [--seed S]                                        the tables
-//        bench --only NAME [--panel spread|crowded] [--pixels N] [--k K]      one kind of call on pkreg alone, for callgrind;
-//                                                                             fill-c++ is the fill of build.hpp, nearest and nearest-r-tree
-//                                                                             take --panel ring too
+// Times the calls of pkreg beside six other sets of pixels on the same seeded work, and stops if any of them finds another number.
+// Usage: bench [--pixels N] [--seed S]
+//        bench --only NAME [--set pkreg|tree] [--panel spread|crowded] [--pixels N] [--k K]
+// The first prints the tables. The second is one kind of call alone, for callgrind: on pkreg, or on the C++ tree of tree.hpp; nearest and
+// nearest-r-tree take --panel ring too.
 #include "nearest.hpp"
 
 #include <map>
@@ -59,6 +59,25 @@ template <class Set> uint64_t perform(Set &set, const Workload &work, int operat
 
 static Output room_for(const Workload &work) { return {Codes(work.pixels.size()), Bytes(1u << 20), 0}; }
 
+// After these, what the set holds is counted, so that one that does nothing is seen.
+static bool finds_nothing(int operation) { return operation == SAVE || operation == LOAD || operation == FILL; }
+
+// The C++ tree is pkreg's equal: it finds the same numbers, lists the same codes, saves the same image, and its store stays sound.
+static void must_agree(const Workload &work, uint32_t k)
+{
+    Register ours(work.order, k, work.pixels.size());
+    Tree other(work.order, k, work.pixels.size());
+    Output output = room_for(work), image = room_for(work);
+    for (int operation = 0; operation < OPERATIONS; operation++) {
+        uint64_t found = perform(ours, work, operation, output);
+        must(perform(other, work, operation, image) == found, "finds another number than pkreg", "C++ tree");
+        must(ours.count(work.whole[0]) == other.count(work.whole[0]), "holds another number than pkreg", "C++ tree");
+        must(output.codes == image.codes, "lists other codes than pkreg", "C++ tree");
+        must(output.length == image.length && output.bytes == image.bytes, "saves another image than pkreg", "C++ tree");
+        other.must_be_sound();
+    }
+}
+
 // The best of the repeats; `make` gives an empty set.
 template <class Make> std::vector<Measured> measure(const Workload &work, Make make)
 {
@@ -72,9 +91,8 @@ template <class Make> std::vector<Measured> measure(const Workload &work, Make m
             best[operation].found = perform(set, work, operation, output);
             std::chrono::duration<double, std::nano> time = Clock::now() - start;
             best[operation].nanoseconds = std::min(best[operation].nanoseconds, time.count() / calls_of(work, operation));
-            // What is left, outside the time: so that a fill that does nothing is seen.
-            if (operation == FILL)
-                best[operation].found = set.count(work.whole[0]);
+            if (finds_nothing(operation))
+                best[operation].found = set.count(work.whole[0]); // outside the time
         }
     }
     return best;
@@ -104,9 +122,12 @@ static void print_table(const Columns &columns)
 static void compare(bool crowded, size_t pixels, uint32_t seed)
 {
     Workload work(crowded, pixels, seed);
+    must_agree(work, 3);
+    must_agree(work, 8);
     Columns columns;
     columns.emplace_back("pkreg k=3", measure(work, [&] { return Register(work.order, 3, pixels); }));
     columns.emplace_back("pkreg k=8", measure(work, [&] { return Register(work.order, 8, pixels); }));
+    columns.emplace_back("C++ k=8", measure(work, [&] { return Tree(work.order, 8, pixels); }));
     columns.emplace_back("std::set", measure(work, [] { return Sorted<std::set<uint32_t>>(); }));
     columns.emplace_back("vector", measure(work, [] { return Sorted<Codes>(); }));
     columns.emplace_back("CRoaring", measure(work, [] { return RoaringSet(); }));
@@ -118,36 +139,37 @@ static void compare(bool crowded, size_t pixels, uint32_t seed)
     print_table(columns);
 }
 
-// What is needed before the named calls is done too; callgrind is told to count within the named call only.
-static int perform_only(std::map<std::string, std::string> &options)
+// One kind of call; what is needed before is done too. Callgrind is told to count within the named call only.
+template <class Set> void perform_on(Set set, const Workload &work, int only)
 {
-    size_t pixels = std::stoul(options["--pixels"]);
-    if (options["--only"].rfind("nearest", 0) == 0) {
-        Searches searches = searches_on(options["--panel"], pixels, 1);
-        if (options["--only"] == "nearest")
-            seek_only(Register(searches.order, std::stoul(options["--k"]), searches.ascending.size()), searches);
-        else
-            seek_only(PointTree(), searches);
-        return 0;
-    }
-    Workload work(options["--panel"] == "crowded", pixels, 1);
     Output output = room_for(work);
-    Register set(work.order, std::stoul(options["--k"]), pixels);
-    if (options["--only"] == "fill-c++") {
-        set.fill_unverified(work.ascending);
-        set.must_be_sound();
-        std::printf("1 calls %u found\n", set.count(work.whole[0]));
-        return 0;
-    }
-    int only = int(std::find(names, names + OPERATIONS, options["--only"]) - names);
-    must(only < OPERATIONS, "no such call", options["--only"].c_str());
     if (only != MARK && only != FILL)
         perform(set, work, MARK, output);
     if (only == LOAD)
         perform(set, work, SAVE, output);
     uint64_t found = perform(set, work, only, output);
+    if (finds_nothing(only))
+        found = set.count(work.whole[0]) * calls_of(work, only);
     std::printf("%zu calls %llu found\n", calls_of(work, only), (unsigned long long)found);
-    return 0;
+}
+
+static void perform_only(std::map<std::string, std::string> &options)
+{
+    size_t pixels = std::stoul(options["--pixels"]);
+    uint32_t k = std::stoul(options["--k"]);
+    std::string name = options["--only"];
+    if (name == "nearest" || name == "nearest-r-tree") {
+        Searches searches = searches_on(options["--panel"], pixels, 1);
+        if (name == "nearest")
+            return seek_only(Register(searches.order, k, searches.ascending.size()), searches);
+        return seek_only(PointTree(), searches);
+    }
+    Workload work(options["--panel"] == "crowded", pixels, 1);
+    int only = int(std::find(names, names + OPERATIONS, name) - names);
+    must(only < OPERATIONS, "no such call", name.c_str());
+    if (options["--set"] == "tree")
+        return perform_on(Tree(work.order, k, pixels), work, only);
+    perform_on(Register(work.order, k, pixels), work, only);
 }
 
 int main(int count, char **arguments)
@@ -155,8 +177,10 @@ int main(int count, char **arguments)
     std::map<std::string, std::string> options{{"--seed", "1"}, {"--panel", "spread"}, {"--pixels", "0"}, {"--k", "3"}};
     for (int i = 1; i + 1 < count; i += 2)
         options[arguments[i]] = arguments[i + 1];
-    if (options.count("--only"))
-        return perform_only(options);
+    if (options.count("--only")) {
+        perform_only(options);
+        return 0;
+    }
     std::printf("Time of a call, best of %d repeats; right of pkreg: the other's time over that of pkreg k=8 (above 1: slower).\n", REPEATS);
     std::vector<size_t> sizes{1000, 8000, 60000};
     if (size_t pixels = std::stoul(options["--pixels"]))

@@ -1,8 +1,6 @@
-// Six sets of pixels with the same members, so that one loop measures them all. Needs Debian's libboost-dev and libroaring-dev.
+// Seven sets of pixels with the same members, so that one loop measures them all. Needs Debian's libboost-dev and libroaring-dev.
 #pragma once
-#include "build.hpp"
-#include "pkreg.h"
-#include "workload.hpp"
+#include "tree.hpp"
 
 #include <boost/geometry.hpp>
 #include <boost/geometry/index/rtree.hpp>
@@ -57,12 +55,44 @@ public:
     }
     void load(const Bytes &image, size_t length) { must(!pk_load(store.data(), store.size(), image.data(), length), "refused", "load"); }
     void fill(const Codes &codes) { must(!pk_fill(store.data(), store.size(), codes.data(), codes.size()), "refused", "fill"); }
-    // The same by the C++ build; what it makes must be sound.
-    void fill_unverified(const Codes &codes)
+};
+
+// The unverified C++ PK-tree, in a store of its own.
+class Tree {
+    std::vector<uint32_t> store;
+    bool known; // whether the library knows the numbers in the store, so that it can check them
+
+public:
+    Tree(unsigned order, uint32_t k, size_t most) : store(pk_words(k, most))
     {
-        must(!unverified::fill(store.data(), store.size(), codes.data(), codes.size()), "refused", "the C++ fill");
+        must(!pk_make(store.data(), store.size(), order, k, most), "refused", "make");
+        known = store[unverified::BLOCKS] == 1;
+        store[unverified::BLOCKS] = 1;
+        unverified::slot_at(store.data(), unverified::width_of(k), 0).number = 0;
     }
-    void must_be_sound() const { must(pk_check(store.data(), store.size()).first == 1, "made no sound store", "the C++ fill"); }
+    bool mark(Pixel p) { return unverified::mark(store.data(), store.size(), p.x, p.y) == PK_ACCEPTED; }
+    bool clear(Pixel p) { return unverified::clear(store.data(), store.size(), p.x, p.y) == PK_ACCEPTED; }
+    bool ask(Pixel p) const { return unverified::ask(store.data(), store.size(), p.x, p.y).first == 1; }
+    uint32_t count(Window w) const { return unverified::count(store.data(), store.size(), w.x0, w.y0, w.x1, w.y1).first; }
+    uint32_t list(Window w, Codes &output) const
+    {
+        return unverified::list(store.data(), store.size(), w.x0, w.y0, w.x1, w.y1, output.data(), output.size()).first;
+    }
+    size_t save(Bytes &output) const
+    {
+        pk_answer saved = unverified::save(store.data(), store.size(), output.data(), output.size());
+        must(!saved.refusal, "refused", "save of the C++ tree");
+        return saved.first;
+    }
+    void load(const Bytes &image, size_t length)
+    {
+        must(!unverified::load(store.data(), store.size(), image.data(), length), "refused", "load of the C++ tree");
+    }
+    void fill(const Codes &codes)
+    {
+        must(!unverified::fill(store.data(), store.size(), codes.data(), codes.size()), "refused", "fill of the C++ tree");
+    }
+    void must_be_sound() const { must(!known || pk_check(store.data(), store.size()).first == 1, "is no sound store", "the C++ tree"); }
 };
 
 // Counting and listing for a set that has search(window, visit), which hands the code of each pixel found to `visit`.

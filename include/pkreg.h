@@ -8,9 +8,11 @@
  * The tree. The panel is cut into quarters, these again, and so on down to single pixels; each such square is a block. A block's elements
  * are what lies directly in it: marked pixels, and smaller blocks of the tree, each of which counts as one element with all that it holds.
  * The tree has the blocks with k elements or more (k is 2 to 16), and always the root, which is the whole panel. A call opens a block when
- * it reads the block's elements, so the number of blocks opened is a measure of its work.
+ * it reads the block's elements, so the number of blocks opened is a measure of its work. Each block also carries the number of marked
+ * pixels in it.
  *
- * The image. Two registers of the same m and k that hold the same pixels save the same image, byte for byte.
+ * The image. Two registers of the same m and k that hold the same pixels save the same image, byte for byte. What is kept on disk or goes
+ * to another program is an image, never the words of a store: from word 4 on they are laid out as this version of the library needs them.
  *
  * What the caller owes to every call:
  *   - a pointer to as many words or bytes as the number beside it says, aligned for its type; null is allowed beside a length of 0;
@@ -26,9 +28,9 @@
 
 /* The version; the Makefile takes it from here. A new MAJOR gives the shared library a new name, so no program meets one that it was not
    linked for. */
-#define PK_VERSION "1.4.0"
+#define PK_VERSION "1.5.0"
 #define PK_VERSION_MAJOR 1
-#define PK_VERSION_MINOR 4
+#define PK_VERSION_MINOR 5
 #define PK_VERSION_PATCH 0
 
 #include <stddef.h>
@@ -130,15 +132,16 @@ pk_answer pk_ask(const uint32_t *store, size_t words, uint32_t x, uint32_t y);
 pk_nearest_answer pk_nearest(const uint32_t *store, size_t words, uint32_t x, uint32_t y, uint32_t budget);
 
 /* The window from (x0, y0) to (x1, y1), both corners included; it may reach past the panel, to any coordinate, and its part on the panel is
-   meant. first: the marked pixels in it. second: the blocks opened, which are those of the tree that share a pixel with it. A window wholly
-   off the panel gives 0 and 0 without a look at the slots, so also where the store is damaged. Give 0 for a corner below 0: a negative number
+   meant. first: the marked pixels in it. second: the blocks opened, which are those of the tree that share a pixel with it without lying
+   wholly inside: such a block is taken by the number that it carries, so the whole panel opens 0, whatever is marked. A window wholly off
+   the panel gives 0 and 0 without a look at the slots, so also where the store is damaged. Give 0 for a corner below 0: a negative number
    is taken for one far beyond the panel, and a window from there back onto the panel is refused with 8. Refusals 3, 8, 13. */
 pk_answer pk_count(const uint32_t *store, size_t words, uint32_t x0, uint32_t y0, uint32_t x1, uint32_t y1);
 
-/* As pk_count, and writes the code of each found pixel once to the first words of the output, in rising order: for the same pixels and
-   window the same words, so the list can be run beside a frame stored by code. An accepted call writes no word past the number that it
-   returns, also where the store is damaged. With 9, first is the words needed; an output of `most` words is
-   always long enough, and a window wholly off the panel needs none. Refusals 3, 8, 9, 13. */
+/* As pk_count, but opens all blocks of the tree that share a pixel with the window, and writes the code of each found pixel once to the first
+   words of the output, in rising order: for the same pixels and window the same words, so the list can be run beside a frame stored by
+   code. An accepted call writes no word past the number that it returns, also where the store is damaged. With 9, first is the words
+   needed; an output of `most` words is always long enough, and a window wholly off the panel needs none. Refusals 3, 8, 9, 13. */
 pk_answer pk_list(const uint32_t *store, size_t words, uint32_t x0, uint32_t y0, uint32_t x1, uint32_t y1,
                   uint32_t *output, size_t output_words);
 

@@ -16,7 +16,7 @@ import os
 from typing import NamedTuple, Optional
 
 # that of include/pkreg.h; the library is opened by the name that goes with its first number
-__version__ = "1.4.0"
+__version__ = "1.5.0"
 
 MEANINGS = {
     1: "m, k or most is beyond its limits: m is 1 to 16, k 2 to 16, most 1 to 65535",
@@ -272,13 +272,14 @@ class Register:
         return Nearest(pixel, answer.distance, answer.opened, answer.limit, answer.complete == 1)
 
     def count(self, x0, y0, x1, y1):
-        """The marked pixels in the window, both corners included, and the blocks opened: of its part on the panel, where it reaches past that.
-        A corner below 0 is given as 0."""
+        """The marked pixels in the window, both corners included, and the blocks opened, which are those that share a pixel with it without
+        lying wholly inside: of its part on the panel, where it reaches past that. A corner below 0 is given as 0."""
         answer = self._answer(_calls().pk_count(*self._lent, *map(_number, (x0, y0, x1, y1))))
         return Counted(answer.first, answer.second)
 
     def list(self, x0, y0, x1, y1):
-        """As count, with the code of each found pixel, in rising order; pixel_of gives its x and y."""
+        """The code of each marked pixel in the window, in rising order, and the blocks opened, which are all that share a pixel with it;
+        pixel_of gives a code's x and y."""
         output = (ctypes.c_uint32 * self.most)()
         answer = self._answer(_calls().pk_list(*self._lent, *map(_number, (x0, y0, x1, y1)), output, len(output)))
         return Listed(output[: answer.first], answer.second)

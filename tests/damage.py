@@ -30,7 +30,9 @@ def decided(store, name, numbers):
         return 0 if len(numbers) == 4 else 4
     if name == "nearest" and numbers[2] == 0:
         return 15
-    return 13 if is_spoiled(store) else None
+    # a count of the whole panel is the root's number, the fifth word of slot 0
+    whole = name == "count" and numbers[:2] == (0, 0) and min(numbers[2:]) >= 2 ** store[1] - 1
+    return 13 if is_spoiled(store) or whole and store[12] > store[3] else None
 
 
 def arguments(random, model, name):

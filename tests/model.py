@@ -180,9 +180,9 @@ class Model:
     def window(self, x0, y0, x1, y1):
         """The refusal of a window, the codes found in it, and the blocks that share a pixel with it: what of it is off the panel has neither."""
         if x0 > x1 or y0 > y1:
-            return 8, [], 0
+            return 8, [], []
         found = [code for code in sorted(self.codes) if x0 <= corner(code)[0] <= x1 and y0 <= corner(code)[1] <= y1]
-        return 0, found, sum(self._shares(block, x0, y0, x1, y1) for block in self.tree().blocks)
+        return 0, found, [block for block in self.tree().blocks if self._shares(block, x0, y0, x1, y1)]
 
     @staticmethod
     def _shares(block, x0, y0, x1, y1):
@@ -190,16 +190,23 @@ class Model:
         x, y = corner(code)
         return x <= x1 and x0 < x + 2**level and y <= y1 and y0 < y + 2**level
 
+    @staticmethod
+    def _lies_inside(block, x0, y0, x1, y1):
+        level, code = block
+        x, y = corner(code)
+        return x0 <= x and x + 2**level - 1 <= x1 and y0 <= y and y + 2**level - 1 <= y1
+
     def count(self, *window):
-        refusal, found, opened = self.window(*window)
-        return refusal, len(found), opened
+        """A block wholly inside the window is taken by its number, and not opened."""
+        refusal, found, shared = self.window(*window)
+        return refusal, len(found), sum(not self._lies_inside(block, *window) for block in shared)
 
     def list(self, *window, room):
         """The answer, and the codes that are written, in rising order: so the header promises."""
-        refusal, found, opened = self.window(*window)
+        refusal, found, shared = self.window(*window)
         if not refusal and len(found) > room:
             return (9, len(found), 0), []
-        return (refusal, len(found), opened), found
+        return (refusal, len(found), len(shared)), found
 
     def image(self):
         return image_of(self.order, self.k, self.codes)

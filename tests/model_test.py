@@ -80,6 +80,21 @@ def drawn(rolls):
     return model
 
 
+# on the first panel: the window, found and opened by a count, and by a list
+FAR = 2**32 - 1
+WINDOWS = (
+    ((0, 0, 7, 7), (4, 0), (4, 2)),
+    ((0, 0, FAR, FAR), (4, 0), (4, 2)),
+    ((0, 0, 0, 7), (2, 2), (2, 2)),
+    ((0, 0, 1, 7), (3, 1), (3, 2)),
+    ((6, 6, 9, FAR), (1, 1), (1, 1)),
+    ((7, 0, FAR, 8), (0, 1), (0, 1)),
+    ((8, 0, 9, 7), (0, 0), (0, 0)),
+    ((0, 8, 7, 8), (0, 0), (0, 0)),
+    ((FAR, 0, FAR, 0), (0, 0), (0, 0)),
+)
+
+
 def cases():
     """What is told, and what the specification says."""
     for m, k, codes, expected in PANELS:
@@ -89,7 +104,7 @@ def cases():
     first = holding(3, 3, [0, 1, 2, 60])
     yield first.ask(1, 1), (0, 0, 2)
     yield first.ask(3, 3), (0, 0, 1)
-    yield first.window(4, 4, 7, 7), (0, [60], 1)
+    yield [first.count(4, 4, 7, 7), first.list(4, 4, 7, 7, room=1)], [(0, 1, 1), ((0, 1, 1), [60])]
     yield first.ask(8, 0), (4, 0, 0)
     for place, budget, expected in SEARCHES:
         yield first.nearest(*place, budget), (0, *expected)
@@ -101,10 +116,10 @@ def cases():
     for model in (drawn(rolls) for _ in range(300)):
         places = [[rolls.randrange(2**model.order) for _ in "xy"] for _ in range(5)]
         yield [sentence for place in places for sentence in broken(model, *place)], []
-    yield first.window(6, 6, 9, 2**32 - 1), (0, [60], 1)
-    yield first.window(7, 0, 2**32 - 1, 8), (0, [], 1)
-    yield [first.window(8, 0, 9, 7), first.window(0, 8, 7, 8), first.window(2**32 - 1, 0, 2**32 - 1, 0)], [(0, [], 0)] * 3
-    yield [first.window(9, 0, 8, 7), first.window(8, 9, 9, 8)], [(8, [], 0)] * 2
+    # of the root and the block 1/0, a count opens those over the window's edge, a list those that it meets
+    for window, counted, listed in WINDOWS:
+        yield [first.count(*window), first.list(*window, room=4)[0]], [(0, *counted), (0, *listed)]
+    yield [first.count(*window) for window in ((9, 0, 8, 7), (8, 9, 9, 8))], [(8, 0, 0)] * 2
     yield (interleave(5, 3), interleave(65535, 65535)), (27, 4294967295)
     yield [words_needed(k, most) for k, most in ((3, 9), (1, 9), (17, 9), (3, 0), (3, 65536))], [148, 0, 0, 0, 0]
     full = holding(3, 3, range(9))

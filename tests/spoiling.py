@@ -28,6 +28,16 @@ def scatter(random, subject, model):
         subject.store[at] = random.choice((random.getrandbits(32), random.randrange(20), other, SPOILED, subject.store[at] + 1 & SPOILED))
 
 
+def misnumber(random, subject, model):
+    """The numbers that some blocks carry, the root's among them, and that of the blocks held become others."""
+    width, slots = 8 + 10 * (model.k - 1), slots_for(model.k, model.most)
+    for slot in {0, *(random.randrange(slots) for _ in range(random.randint(0, 4)))}:
+        numbers = (random.randint(0, model.most), model.most + 1, subject.store[12 + slot * width] + 1 & SPOILED, random.getrandbits(32), SPOILED)
+        subject.store[12 + slot * width] = random.choice(numbers)
+    if random.random() < 0.5:
+        subject.store[6] = random.choice((0, random.randint(1, slots), slots, slots + 1, random.getrandbits(32), SPOILED))
+
+
 def copy_slot(random, subject, model):
     """One slot's words over another's: two slots claim to be one block."""
     width = 8 + 10 * (model.k - 1)
@@ -38,7 +48,7 @@ def copy_slot(random, subject, model):
 
 
 def name_each_other(random, subject, model):
-    """Slots whose elements are blocks in other slots, and the own one, by the layout of docs/DECISIONS.md, numbers 8 and 9."""
+    """Slots whose elements are blocks in other slots, and the own one, by the layout of docs/DECISIONS.md, numbers 8, 9 and 94."""
     width = 8 + 10 * (model.k - 1)
     slots = slots_for(model.k, model.most)
     for slot in range(slots):
@@ -71,4 +81,4 @@ def other_sizes(random, subject, model):
     subject.store[at] = value if at == 0 or random.random() < 0.5 else within_limits[at]
 
 
-DAMAGES = (spoil, scatter, scatter, copy_slot, name_each_other, name_next, other_sizes)
+DAMAGES = (spoil, scatter, scatter, misnumber, misnumber, copy_slot, name_each_other, name_next, other_sizes)

@@ -1,7 +1,8 @@
 """A sound store damaged in one word at a time: for each word, how many of eight values check still answers yes to.
 
-The store is that of the specification's first panel. The numbers were worked out from the definition of soundness by another program; the
-words that nothing relies on (4, 5, a slot's words 4 to 7 and what lies past its elements) take any value.
+The store is that of the specification's first panel. The numbers were worked out from the definition of soundness, by another program but for
+those of the blocks' own numbers; the words that nothing relies on (4, 5, a slot's words 5 to 7, a free slot's word 4, and what lies past a
+slot's elements) take any value.
 """
 
 import sys
@@ -9,8 +10,8 @@ import sys
 from lent import LIBRARY, words
 
 EXPECTED = """words 0 to 7: 0 0 0 0 7 7 0 0
-slot: 0 0 0 7 7 7 7 7 0 0 2 0 7 7 7 7 7 7 7 7 7 7 7 7 7 7 7 7
-slot: 0 0 0 7 7 7 7 7 0 0 0 0 1 0 7 7 7 7 7 7 7 7 7 7 7 7 7 7
+slot: 0 0 0 7 0 7 7 7 0 0 2 0 7 7 7 7 7 7 7 7 7 7 7 7 7 7 7 7
+slot: 0 0 0 7 0 7 7 7 0 0 0 0 1 0 7 7 7 7 7 7 7 7 7 7 7 7 7 7
 slot: 0 7 7 0 7 7 7 7 7 7 7 7 7 7 7 7 7 7 7 7 7 7 7 7 7 7 7 7
 slot: 0 7 7 0 7 7 7 7 7 7 7 7 7 7 7 7 7 7 7 7 7 7 7 7 7 7 7 7
 slot: 0 7 7 0 7 7 7 7 7 7 7 7 7 7 7 7 7 7 7 7 7 7 7 7 7 7 7 7

@@ -1,12 +1,11 @@
--- The side of a panel, as the code makes it by a shift, and the codes of the panel's pixels.
+-- The side of a usable store's panel, and the codes of its pixels.
 use Prim.Native.Nat.{ℕ, _*_, _%_, _^_, _≤_}
-use native.Mathlib.Omega.{arith}
 use mathlib.Core.Path.{_≡_}
 use mathlib.Core.List.{List}
-use lib.Pow.{pow-mono, pow-pos}
 use Rattle.morton.specs.Coordinate.{largestSide}
 use Rattle.morton.specs.Code.{codeOf}
 use Rattle.morton.proofs.Codes.{interleave-below}
+use Rattle.morton.proofs.Side.{side-shifted}
 use Rattle.pktree.specs.Panel.{OnPanel}
 use Rattle.measures.specs.declared.sizes.Sizes.{Sizes}
 use Rattle.measures.specs.Sizes.{panelOf, sizesOf, UsableStore}
@@ -18,10 +17,6 @@ Known words sizes = (sizes ≡ sizesOf words) × UsableStore words
 
 pub order-small : {words : List ℕ} {sizes : Sizes} → Known words sizes → sizes .order ≤ 16
 order-small known = rw (known .0) (known .1 .valid .panel .order-to)
-
--- it fits in a word, and is at least 1
-pub side-shifted : {order : ℕ} → order ≤ 16 → (1 * 2 ^ order % 4294967296 ≡ 2 ^ order) × (2 ^ order ≤ largestSide) × (1 ≤ 2 ^ order)
-side-shifted {order} low = let p : 2 ^ order ≤ 2 ^ 16 = pow-mono low in omega (arith, pow-pos order)
 
 pub side-of-order
     : {words : List ℕ} {sizes : Sizes} → Known words sizes

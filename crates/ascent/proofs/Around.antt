@@ -8,9 +8,10 @@ use Rattle.pktree.proofs.Arranged.{quarterLevel}
 use Rattle.measures.specs.Slot.{slotPart, OnlySlot}
 use Rattle.store.specs.Placed.{Placed, slotsOf}
 use Rattle.store.specs.FreeSlots.{occurrences}
+use Rattle.store.specs.Numbers.{Numbered}
 use Rattle.store.proofs.Standing.{frame, every-right}
-use Rattle.measures.proofs.SlotWrites.{word-in-front}
-use Rattle.store.proofs.FreeChains.{absent, free-kept, occurrences-same, occurrences-join}
+use Rattle.store.proofs.FreeChains.{absent, occurrences-same, occurrences-join}
+use Rattle.store.proofs.SlotsLeft.{left-kept}
 use Rattle.descent.specs.Way.{Frame}
 use Rattle.ascent.proofs.Frames.{waySlots}
 use Rattle.ascent.proofs.Pending.{Setting, widthIn, slotsIn, Around}
@@ -34,8 +35,9 @@ module _ {σ : Setting} {words : List ℕ} {way : List Frame} {s level code : �
   pub slot-below : s < slotsIn σ
   slot-below = every-right (λ t. t < slotsIn σ) (waySlots way) (s ∷ (slotsOf es ++ free)) (subst (Every (λ t. t < slotsIn σ)) (append-assoc (waySlots way) (s ∷ slotsOf es) free) (h .shared .inside)) .0
 
-  counts : occurrences s (waySlots way) + (suc (occurrences s (slotsOf es)) + occurrences s free) ≡ 1
-  counts =
+  -- it is in one place
+  pub slot-once : occurrences s (waySlots way) + (suc (occurrences s (slotsOf es)) + occurrences s free) ≡ 1
+  slot-once =
       omega (
         arith,
         h .shared .once s slot-below,
@@ -45,17 +47,17 @@ module _ {σ : Setting} {words : List ℕ} {way : List Frame} {s level code : �
       )
 
   pub way-elsewhere : Every (λ t. t ≡ s → ⊥) (waySlots way)
-  way-elsewhere = absent s (waySlots way) (omega (arith, counts))
+  way-elsewhere = absent s (waySlots way) (omega (arith, slot-once))
 
   pub elements-elsewhere : Every (λ t. t ≡ s → ⊥) (slotsOf es)
-  elements-elsewhere = absent s (slotsOf es) (omega (arith, counts))
+  elements-elsewhere = absent s (slotsOf es) (omega (arith, slot-once))
 
   pub free-elsewhere : Every (λ t. t ≡ s → ⊥) free
-  free-elsewhere = absent s free (omega (arith, counts))
+  free-elsewhere = absent s free (omega (arith, slot-once))
 
-  -- another content of the slot leaves all around it
-  pub around-kept : {after : List ℕ} → OnlySlot (widthIn σ) s words after → Around σ after way s level code es free
-  around-kept {after} only =
+  -- another content of the slot, with the right number, leaves all around it
+  pub around-kept : {after : List ℕ} → OnlySlot (widthIn σ) s words after → Numbered (widthIn σ) (slotsIn σ) after (σ .target) → Around σ after way s level code es free
+  around-kept {after} only numbered =
       let agree = others-agree (widthIn σ) s words after (only .others) in
       record {
         frames-right = h .frames-right;
@@ -65,7 +67,8 @@ module _ {σ : Setting} {words : List ℕ} {way : List Frame} {s level code : �
         disturbed = h .disturbed;
         fits = h .fits;
         some = h .some;
-        free-chain = free-kept (widthIn σ) words after free (word-in-front 8 7 words after (omega arith) (only .head)) (agree free free-elsewhere) (h .free-chain);
+        free-chain = left-kept (only .head) (agree free free-elsewhere) (h .free-chain);
         shared = h .shared;
         pixels-are = h .pixels-are;
+        numbered = numbered;
       }

@@ -6,7 +6,8 @@ use Rattle.pktree.specs.Tree.{pixels}
 use Rattle.pktree.proofs.Arranged.{LocallyRight}
 use Rattle.measures.specs.Slot.{slotPart}
 use Rattle.store.specs.Placed.{Placed, slotsOf}
-use Rattle.store.specs.FreeSlots.{FreeSlots, occurrences}
+use Rattle.store.specs.FreeSlots.{occurrences}
+use Rattle.store.specs.Numbers.{Numbered}
 use Rattle.store.specs.Sound.{SlotsShared}
 use Rattle.store.proofs.Standing.{SlotSays, Stands}
 use Rattle.ascent.proofs.Pending.{Setting, widthIn, slotsIn}
@@ -14,6 +15,7 @@ use native.Mathlib.Omega.{arith}
 use mathlib.Core.Logic.{_⊎_}
 use Rattle.pktree.specs.Elements.{size, blockAt, empty}
 use Rattle.store.proofs.FreeChains.{occurrences-join}
+use Rattle.store.proofs.SlotsLeft.{SlotsLeft}
 use Rattle.descent.specs.Way.{Frame, plug}
 use Rattle.ascent.proofs.Frames.{RootStands, FramesRight, waySlots, FramesStand, rootElements, rootSlot, plug-root, whole-right}
 use Rattle.ascent.proofs.SlotCounts.{plug-slots, shared-moves}
@@ -24,9 +26,10 @@ pub record Completed (σ : Setting) (words : List ℕ) : Type 0 where
   pub free : List ℕ
   pub root : RootStands (widthIn σ) words (σ .m) es
   pub right : LocallyRight (σ .k) (σ .m) 0 es
-  pub free-chain : FreeSlots (widthIn σ) words free
+  pub free-chain : SlotsLeft (widthIn σ) (slotsIn σ) words free
   pub shared : SlotsShared (slotsIn σ) (0 ∷ slotsOf es) free
   pub pixels-are : pixels es ≡ σ .target
+  pub numbered : Numbered (widthIn σ) (slotsIn σ) words (σ .target)
 
 -- Where the block at the end of the way is right, the change has come to rest.
 -- the block at the end of the way is right, with k elements or as the root, and all stands
@@ -39,9 +42,10 @@ pub record AtRest (σ : Setting) (words : List ℕ) (way : List Frame) (s level 
   pub stands : Stands (widthIn σ) words es
   pub right : LocallyRight (σ .k) level code es
   pub enough : (level ≡ σ .m) ⊎ (σ .k ≤ size es)
-  pub free-chain : FreeSlots (widthIn σ) words free
+  pub free-chain : SlotsLeft (widthIn σ) (slotsIn σ) words free
   pub shared : SlotsShared (slotsIn σ) (waySlots way ++ (s ∷ slotsOf es)) free
   pub pixels-are : pixels (plug way s level code es) ≡ σ .target
+  pub numbered : Numbered (widthIn σ) (slotsIn σ) words (σ .target)
 
 root-in-slot-0 : (width : ℕ) (words : List ℕ) (way : List Frame) (s i d : ℕ) → FramesStand width words way s i d → rootSlot way s ≡ 0
 root-in-slot-0 width words [] s i d h = h
@@ -70,4 +74,5 @@ completed {σ} {words} {way} {s} {level} {code} {es} {free} h =
             occurrences-join t (0 ∷ slotsOf root) free,
           ));
       pixels-are = sym (append-nil (pixels root)) ∙ ap (λ (p : Placed). pixels p) (sym e) ∙ h .pixels-are;
+      numbered = h .numbered;
     }

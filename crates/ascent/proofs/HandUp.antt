@@ -16,10 +16,12 @@ use Rattle.pktree.proofs.Regroup.{Disturbed}
 use Rattle.pktree.proofs.Edits.{dissolve}
 use Rattle.pktree.proofs.Unlabelled.{size-unlabelled, local-unlabelled}
 use Rattle.store.specs.Placed.{Placed, slotsOf}
-use Rattle.store.specs.FreeSlots.{FreeSlots, occurrences}
+use Rattle.store.specs.FreeSlots.{occurrences}
+use Rattle.store.specs.Numbers.{Numbered}
 use Rattle.store.proofs.Standing.{Stands}
 use Rattle.store.proofs.PlacedJoin.{slots-join, stands-join}
 use Rattle.store.proofs.FreeChains.{occurrences-join}
+use Rattle.store.proofs.SlotsLeft.{SlotsLeft}
 use Rattle.descent.specs.Way.{Frame}
 use Rattle.ascent.proofs.Frames.{FrameRight, waySlots, FramesStand, frame-holds, plug-pixels}
 use Rattle.ascent.proofs.Pending.{Setting, widthIn, slotsIn, Around, Pending}
@@ -63,8 +65,9 @@ pub record LeftOver (σ : Setting) (after : List ℕ) (f : Frame) (way : List Fr
   pub same-pixels : pixels left ≡ pixels es
   pub frames-stand : FramesStand (widthIn σ) after (f ∷ way) s level code
   pub stands : Stands (widthIn σ) after left
-  pub free-chain : FreeSlots (widthIn σ) after free′
+  pub free-chain : SlotsLeft (widthIn σ) (slotsIn σ) after free′
   pub counts : (t : ℕ) → occurrences t (slotsOf left ++ free′) ≡ occurrences t ((s ∷ slotsOf es) ++ free)
+  pub numbered : Numbered (widthIn σ) (slotsIn σ) after (σ .target)
 
 pub handed-up : {σ : Setting} {words after : List ℕ} {f : Frame} {way : List Frame} {s level code : ℕ} {es left : Placed} {free free′ : List ℕ}
     → Around σ words (f ∷ way) s level code es free → LeftOver σ after f way s level code es left free free′
@@ -89,6 +92,7 @@ handed-up {σ} {words} {after} {f} {way} {s} {level} {code} {es} {left} {free} {
         shared = shared-moves (slotsIn σ) (waySlots (f ∷ way) ++ (s ∷ slotsOf es)) free (waySlots way ++ (f .slot ∷ slotsOf (b ⧺ (left ⧺ c)))) free′ (h .shared) moved;
         pixels-are = plug-pixels way (f .slot) (f .level) (f .code) (b ⧺ (left ⧺ c)) (b ⧺ blockAt s level code left c) (place-pixels b left c s level code)
             ∙ plug-pixels (f ∷ way) s level code left es (r .same-pixels) ∙ h .pixels-are;
+        numbered = r .numbered;
       };
       says = r .frames-stand .1;
       was-fit = omega (arith, size-join b (blockAt s level code empty c));

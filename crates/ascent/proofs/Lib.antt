@@ -6,6 +6,7 @@ pub mod FormedAt
 pub mod RunLaw
 pub mod Pending
 pub mod Around
+pub mod RunNumber
 pub mod HandUp
 pub mod SlotForBlock
 pub mod Completed

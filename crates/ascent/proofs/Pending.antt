@@ -9,12 +9,13 @@ use Rattle.pktree.specs.Tree.{pixels}
 use Rattle.pktree.proofs.Arranged.{quarterLevel, LocallyRight}
 use Rattle.pktree.proofs.Regroup.{Disturbed}
 use Rattle.measures.specs.declared.sizes.Layout.{Layout}
-use Rattle.measures.specs.Sizes.{slotWidth, slotCount}
+use Rattle.measures.specs.Sizes.{largestMost, slotWidth, slotCount}
 use Rattle.measures.specs.Slot.{slotPart}
 use Rattle.store.specs.Placed.{Placed, slotsOf}
-use Rattle.store.specs.FreeSlots.{FreeSlots}
+use Rattle.store.specs.Numbers.{Numbered}
 use Rattle.store.specs.Sound.{SlotsShared}
 use Rattle.store.proofs.Standing.{SlotSays, Stands}
+use Rattle.store.proofs.SlotsLeft.{SlotsLeft}
 use Rattle.descent.specs.Way.{Frame, plug}
 use Rattle.ascent.proofs.Frames.{FramesRight, FramesStand, waySlots}
 
@@ -30,6 +31,7 @@ pub record Setting : Type 0 where
   pub k-to : k ≤ 16
   pub m-to : m ≤ 16
   pub most-from : 1 ≤ most
+  pub most-to : most ≤ largestMost
   pub few : length target ≤ most
   pub width-is : layout .width ≡ slotWidth k
   pub slots-is : layout .slots ≡ slotCount k most
@@ -49,9 +51,11 @@ pub record Around (σ : Setting) (words : List ℕ) (way : List Frame) (s level 
   pub disturbed : Disturbed (σ .k) (quarterLevel level) code (σ .x) es
   pub fits : size es ≤ 5 * (σ .k - 1)
   pub some : (level ≡ σ .m) ⊎ (1 ≤ size es)
-  pub free-chain : FreeSlots (widthIn σ) words free
+  pub free-chain : SlotsLeft (widthIn σ) (slotsIn σ) words free
   pub shared : SlotsShared (slotsIn σ) (waySlots way ++ (s ∷ slotsOf es)) free
   pub pixels-are : pixels (plug way s level code es) ≡ σ .target
+  -- the numbers are those of the set to come
+  pub numbered : Numbered (widthIn σ) (slotsIn σ) words (σ .target)
 
 -- to be done: in the slot, the elements `removed` between a and b give way to `inserted`
 pub record Pending (σ : Setting) (words : List ℕ) (way : List Frame) (s level code : ℕ) (a removed inserted b : Placed) (free : List ℕ) : Type 0 where

@@ -1,69 +1,30 @@
 -- A slot is free for a block that is to be formed.
-use Prim.Native.Nat.{ℕ, zero, suc, _+_, _≤_, _<_}
+use Prim.Native.Nat.{ℕ, suc, _≤_, _<_}
 use native.Mathlib.Omega.{arith}
-use native.Mathlib.Decide.{ℕ-discrete}
-use mathlib.Core.Path.{_≡_, refl, ap, subst, sym, _∙_}
+use mathlib.Core.Path.{_≡_, ap, subst, sym, _∙_}
 use mathlib.Core.Logic.{_⊎_}
 use mathlib.Core.List.{List, [], _∷_, _++_, append-nil}
-use lib.ListN.{length, length-append}
+use lib.ListN.{length}
 use Rattle.pktree.specs.Elements.{size, _⧺_, blockAt, empty}
 use Rattle.pktree.specs.Tree.{pixels}
 use Rattle.pktree.proofs.Forests.{blockCount, blockCount-join}
 use Rattle.pktree.proofs.Arranged.{LocallyRight}
 use Rattle.measures.specs.Sizes.{slotCount}
 use Rattle.store.specs.Placed.{Placed, slotsOf}
-use Rattle.store.specs.FreeSlots.{occurrences}
 use Rattle.store.specs.Sound.{SlotsShared}
 use Rattle.store.proofs.PlacedJoin.{slots-are-blocks}
 use Rattle.store.proofs.SoundView.{slots-suffice}
-use Rattle.store.proofs.FreeChains.{occurrences-same, occurrences-other, occurrences-join}
+use Rattle.store.proofs.SlotTotals.{shared-length}
+use Rattle.store.proofs.FreeChains.{occurrences-join}
 use Rattle.descent.specs.Way.{Frame, plug}
 use Rattle.ascent.proofs.Frames.{waySlots, rootElements, rootSlot, plug-root, plug-pixels, whole-right}
 use Rattle.ascent.proofs.Pending.{Setting, slotsIn, Around}
 use Rattle.ascent.proofs.Around.{holds-x}
 use Rattle.ascent.proofs.SlotCounts.{plug-slots, shared-moves}
 
--- slots that are all used are as many as the list has
-sum-of : ℕ → List ℕ → ℕ
-sum-of zero l = 0
-sum-of (suc n) l = occurrences n l + sum-of n l
-
-sum-more : (n s : ℕ) (l : List ℕ) → (s < n → sum-of n (s ∷ l) ≡ suc (sum-of n l)) × (n ≤ s → sum-of n (s ∷ l) ≡ sum-of n l)
-unfolding sum-of
-sum-more zero s l = ((λ h. absurd (omega arith)), (λ h. refl))
-sum-more (suc n) s l = go (ℕ-discrete s n) (sum-more n s l)
-  where
-    go : Dec (s ≡ n) → (s < n → sum-of n (s ∷ l) ≡ suc (sum-of n l)) × (n ≤ s → sum-of n (s ∷ l) ≡ sum-of n l)
-        → (s < suc n → sum-of (suc n) (s ∷ l) ≡ suc (sum-of (suc n) l)) × (suc n ≤ s → sum-of (suc n) (s ∷ l) ≡ sum-of (suc n) l)
-    go (yes e) ih = (
-      (λ h. omega (arith, ih .1 (omega arith), ap (λ (t : ℕ). occurrences t (s ∷ l)) (sym e), ap (λ (t : ℕ). occurrences t l) e, occurrences-same s l)),
-      (λ h. absurd (omega arith)),
-    )
-    go (no ne) ih = (
-      (λ h. omega (arith, ih .0 (omega arith), occurrences-other n s l ne)),
-      (λ h. omega (arith, ih .1 (omega arith), occurrences-other n s l ne)),
-    )
-
-sum-le-length : (n : ℕ) (l : List ℕ) → sum-of n l ≤ length l
-unfolding sum-of
-sum-le-length zero [] = omega arith
-sum-le-length (suc n) [] = omega (arith, sum-le-length n [])
-sum-le-length n (s ∷ l) = go (native.Mathlib.Decide.decLt s n) (sum-le-length n l)
-  where
-    go : Dec (s < n) → sum-of n l ≤ length l → sum-of n (s ∷ l) ≤ length (s ∷ l)
-    go (yes h) p = omega (arith, sum-more n s l .0 h)
-    go (no h) p = omega (arith, sum-more n s l .1 (omega arith))
-
-sum-all : (n : ℕ) (l : List ℕ) → ((t : ℕ) → t < n → occurrences t l ≡ 1) → sum-of n l ≡ n
-unfolding sum-of
-sum-all zero l h = refl
-sum-all (suc n) l h = omega (arith, h n (omega arith), sum-all n l (λ t p. h t (omega arith)))
-
 -- where fewer blocks stand than there are slots, one is free
 pub some-free : (n : ℕ) (used free : List ℕ) → SlotsShared n used free → length used < n → free ≡ [] → ⊥
-some-free n used free h few e =
-    let s = sum-all n (used ++ free) (h .once) in
-    omega (arith, sum-le-length n (used ++ free), length-append used free, ap length e)
+some-free n used free h few e = omega (arith, shared-length h, ap length e)
 
 -- the blocks of a plugged tree
 plug-blocks : (way : List Frame) (s i d : ℕ) (es fs : Placed) → blockCount fs ≡ suc (blockCount es)

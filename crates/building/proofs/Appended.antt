@@ -25,6 +25,7 @@ building-first {sizes} e due =
         many = refl;
         on-stack = refl;
         stands = tt;
+        numbers = tt;
         fresh-is = refl;
         numbered = λ s. refl;
         opened = record { arranged = omega arith; reach = tt; others = λ j q l ne. omega (arith, due .ground .valid .panel .k-from) };

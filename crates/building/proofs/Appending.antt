@@ -21,7 +21,8 @@ use Rattle.building.specs.Growing.{OnlyAround, mostOpen, stackWords}
 use Rattle.building.specs.Build.{PushDue, PushedCode, Grown, PackCompleteAt, PackCompleteDue, CompletePacked, PackCompleteDone, Building, AppendDue, AppendDone}
 use Rattle.building.proofs.Growth.{div-mono, open-around-next, pushed}
 use Rattle.building.proofs.OpenElements.{few-open}
-use Rattle.building.proofs.StackWords.{two-set}
+use Rattle.building.proofs.StackWords.{two-set, grown-lies}
+use Rattle.store.proofs.BlockNumbers.{tree-numbers-join}
 
 -- codes in one block are in one block of every higher level
 common-above : (x d i j : ℕ) → i ≤ j → x / 4 ^ i ≡ d / 4 ^ i → x / 4 ^ j ≡ d / 4 ^ j
@@ -41,6 +42,7 @@ grown-more {sizes} {to = to} d l g = record {
   many = g .many;
   on-stack = g .on-stack;
   stands = g .stands;
+  numbers = g .numbers;
   fresh-is = g .fresh-is;
   numbered = g .numbered;
   opened = record { arranged = arranged-upper (sizes .k) (sizes .order) 0 to d (g .placed) l (g .opened .arranged); reach = g .opened .reach; others = g .opened .others };
@@ -101,6 +103,7 @@ module _ {sizes : Sizes} {layout : Layout} {words stack : List ℕ} {build : Bui
         on-stack = rw (put .stack-is, put .count-is)
             (two-set stack′ (r .count) code 0 (omega (arith, room-to-push .there)) ∙ ap (λ (l : List ℕ). l ++ elementWords one) (after .grown .on-stack) ∙ sym (words-join placed one));
         stands = stands-join (layout .width) words′ placed one (after .grown .stands) tt;
+        numbers = tree-numbers-join (layout .width) words′ placed one (after .grown .numbers) tt;
         fresh-is = omega (arith, put .fresh-is, after .grown .fresh-is, blocks-same);
         numbered = λ s. rw blocks-same (ap (occurrences s) (slots-join placed one ∙ append-nil (slotsOf placed)) ∙ after .grown .numbered s);
         opened = rw (put .last-is)
@@ -127,6 +130,12 @@ module _ {sizes : Sizes} {layout : Layout} {words stack : List ℕ} {build : Bui
       }
 
 -- the same of what code is due
+pub stack-lies : {sizes : Sizes} {layout : Layout} {words stack : List ℕ} {build : Build} {code : ℕ} → AppendDue sizes layout words stack build code → 2 * build .count ≤ length stack
+stack-lies due = grown-lies (due .building .grown)
+
+pub k-counts : {sizes : Sizes} {layout : Layout} {words stack : List ℕ} {build : Build} {code k : ℕ} → AppendDue sizes layout words stack build code → k ≡ sizes .k → 1 ≤ k
+k-counts due e = omega (arith, due .building .ground .valid .panel .k-from)
+
 module _ {sizes : Sizes} {layout : Layout} {words stack : List ℕ} {build : Build} {code level : ℕ} (due : AppendDue sizes layout words stack build code)
     (common : CommonLevel (build .last) code level) where
   pub pack-complete-due : PackCompleteDue sizes layout words stack build level

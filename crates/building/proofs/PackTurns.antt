@@ -1,7 +1,8 @@
 -- The loop that packs, turn by turn.
-use Prim.Native.Nat.{ℕ, _-_, _*_, _/_, _^_, _≤_, _<_}
+use Prim.Native.Nat.{ℕ, _-_, _*_, _≤_, _<_}
 use native.Mathlib.Omega.{arith}
 use mathlib.Core.Path.{_≡_, refl, subst, sym, _∙_}
+use mathlib.Core.Bool.{Bool, true}
 use mathlib.Core.List.{List}
 use lib.ListN.{length, getD}
 use Rattle.morton.specs.CommonLevel.{CommonLevel}
@@ -9,7 +10,7 @@ use Rattle.measures.specs.declared.sizes.Sizes.{Sizes}
 use Rattle.measures.specs.declared.sizes.Layout.{Layout}
 use Rattle.building.specs.declared.build.Build.{Build}
 use Rattle.building.specs.Growing.{stackWords}
-use Rattle.building.specs.Build.{RunStart, PackDue, PackedRun, Beside, PackCompleteAt, PackCompleteDue, PackCompleteDone}
+use Rattle.building.specs.Build.{NothingToPack, NoneComplete, RunStart, PackDue, PackedRun, Beside, PackCompleteAt, PackCompleteDue, PackCompleteDone}
 use Rattle.building.proofs.StackWords.{grown-lies}
 use Rattle.building.proofs.Packing.{all-packed, pack-due, beside-after, still-due, fewer-left}
 
@@ -97,21 +98,38 @@ module _ {sizes : Sizes} {layout : Layout} {limit k : ℕ} {words₀ stack₀ wo
         right = λ sizes′ to codes e′ due′. due-on sizes′ to codes e′ (g .right sizes′ to codes e′ due′);
       }
 
--- the loop ends: no k elements are on the stack, or the block that holds the last k is not below the limit
+-- nothing is to be packed: no k elements are on the stack, or the block that holds the last k is not below the limit
+module _ {k limit : ℕ} {stack : List ℕ} {build : Build} where
+  pub none-where-short : build .count < k → NothingToPack k stack build limit
+  none-where-short short = record { none = λ full i l z. omega arith }
+
+  pub none-where-high : {level : ℕ} → CommonLevel (getD stack (2 * (build .count - k)) 0) (build .last) level → limit ≤ level → NothingToPack k stack build limit
+  none-where-high common high = record { none = λ full i l z. omega (arith, common .least i z) }
+
+-- then all is packed as it stands
+pub nothing-packed : {sizes : Sizes} {layout : Layout} {limit k : ℕ} {words stack : List ℕ} {build : Build} {r : Bool} → k ≡ sizes .k → NoneComplete k stack build limit r → r ≡ true
+    → PackCompleteDone sizes layout build limit words words stack stack build
+nothing-packed {layout = layout} {limit = limit} {words = words} {stack = stack} {build = build} e none t =
+    record {
+      beside = beside-itself layout words;
+      stack-long = refl;
+      last-is = refl;
+      right = λ to codes due. all-packed due (subst (λ (n : ℕ). NothingToPack n stack build limit) e (none .says t));
+    }
+
+-- the loop ends where nothing is
 module _ {sizes : Sizes} {layout : Layout} {limit k : ℕ} {words₀ stack₀ words stack : List ℕ} {build₀ build : Build} (g : Going layout limit k words₀ stack₀ build₀ words stack build)
     (e : k ≡ sizes .k) where
-  going-ends : (k ≤ build .count → (i : ℕ) → i < limit → getD stack (2 * (build .count - k)) 0 / 4 ^ i ≡ build .last / 4 ^ i → ⊥)
-      → PackCompleteDone sizes layout build₀ limit words₀ words stack₀ stack build
+  going-ends : NothingToPack k stack build limit → PackCompleteDone sizes layout build₀ limit words₀ words stack₀ stack build
   going-ends none = record {
     beside = g .beside;
     stack-long = g .stack-long;
     last-is = g .last-is;
-    right = λ to codes due. all-packed (g .right sizes to codes e due)
-        (subst (λ (n : ℕ). n ≤ build .count → (i : ℕ) → i < limit → getD stack (2 * (build .count - n)) 0 / 4 ^ i ≡ build .last / 4 ^ i → ⊥) e none);
+    right = λ to codes due. all-packed (g .right sizes to codes e due) (subst (λ (n : ℕ). NothingToPack n stack build limit) e none);
   }
 
   pub ends-short : build .count < k → PackCompleteDone sizes layout build₀ limit words₀ words stack₀ stack build
-  ends-short short = going-ends (λ full i l z. omega arith)
+  ends-short short = going-ends (none-where-short short)
 
   pub ends-high : {level : ℕ} → CommonLevel (getD stack (2 * (build .count - k)) 0) (build .last) level → limit ≤ level → PackCompleteDone sizes layout build₀ limit words₀ words stack₀ stack build
-  ends-high common high = going-ends (λ full i l z. omega (arith, common .least i z))
+  ends-high common high = going-ends (none-where-high common high)

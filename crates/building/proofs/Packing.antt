@@ -4,35 +4,39 @@ use native.Mathlib.Omega.{arith}
 use native.Mathlib.Decide.{decLt}
 use mathlib.Core.Path.{_≡_, ap, subst, sym, _∙_}
 use mathlib.Core.List.{List, [], _∷_, _++_, append-nil}
-use lib.ListN.{length, getD, take, drop, length-set}
+use lib.ListN.{length, getD, take, drop, length-set, length-append}
 use lib.Seq.{take-take, take-at, drop-at}
+use Rattle.pktree.specs.Lists.{Every}
 use Rattle.pktree.specs.Elements.{empty, blockAt, _⧺_, size}
 use Rattle.pktree.specs.Tree.{pixels}
-use Rattle.pktree.proofs.Forests.{blockCount, blockCount-join, size-join}
+use Rattle.pktree.proofs.Forests.{blockCount, blockCount-join, size-join, pixels-join}
 use Rattle.pktree.proofs.Counting.{countIn-le}
 use Rattle.pktree.proofs.Alignment.{blockCode}
 use Rattle.pktree.proofs.Regroup.{countAround}
 use Rattle.morton.specs.CommonLevel.{CommonLevel}
 use Rattle.measures.specs.declared.sizes.Sizes.{Sizes}
 use Rattle.measures.specs.declared.sizes.Layout.{Layout}
-use Rattle.measures.specs.Sizes.{slotCount}
+use Rattle.measures.specs.Sizes.{slotCount, largestMost}
 use Rattle.measures.specs.Layout.{layoutOf}
-use Rattle.measures.specs.Slot.{slotPart, elementIndex}
+use Rattle.measures.specs.Slot.{slotPart, numberWord, elementIndex}
 use Rattle.measures.proofs.SlotWrites.{drop-take}
 use Rattle.store.specs.Element.{blockTag}
 use Rattle.store.specs.Placed.{Placed, slotsOf}
 use Rattle.store.specs.FreeSlots.{occurrences, numbersFrom}
-use Rattle.store.proofs.Standing.{elementWords, SlotSays, Stands, frame}
+use Rattle.store.specs.Numbers.{numberOfElements}
+use Rattle.store.proofs.Standing.{elementWords, SlotSays, Stands, frame, every-right}
 use Rattle.store.proofs.PlacedJoin.{slots-join, words-join, length-element-words, stands-join, stands-parts}
+use Rattle.store.proofs.BlockNumbers.{TreeNumbers, tree-numbers-parts, tree-numbers-kept, tree-numbers-join}
+use Rattle.store.proofs.ElementNumbers.{elements-number}
 use Rattle.store.proofs.FreeChains.{every-map, occurrences-join, absent}
 use Rattle.rewrite.proofs.SlotNows.{now-says}
 use Rattle.building.specs.declared.build.Build.{Build}
 use Rattle.building.specs.Growing.{codeOfElement}
-use Rattle.building.specs.Build.{RunStart, PackDue, PackedRun, Beside, PackCompleteAt, CompletePacked}
+use Rattle.building.specs.Build.{NothingToPack, RunStart, PackDue, PackedRun, Beside, PackCompleteAt, CompletePacked}
 use Rattle.building.proofs.Growth.{Packed, packing, many-around, few-around, none-to-pack}
 use Rattle.building.proofs.OpenElements.{slot-left}
 use Rattle.building.proofs.StackWords.{two-set, grown-lies, code-on-stack}
-use Rattle.building.proofs.SlotNumbers.{next-number, numbers-past}
+use Rattle.building.proofs.SlotNumbers.{next-number, numbers-past, numbered-below}
 
 module _ {sizes : Sizes} {layout : Layout} {words stack : List ℕ} {build : Build} {limit to : ℕ} {codes : List ℕ} (due : PackCompleteAt sizes layout words stack build limit to codes) where
   abbrev placed : Placed
@@ -42,12 +46,11 @@ module _ {sizes : Sizes} {layout : Layout} {words stack : List ℕ} {build : Bui
   two = due .ground .valid .panel .k-from
 
   -- nothing is left to pack below the limit
-  pub all-packed : (sizes .k ≤ build .count → (i : ℕ) → i < limit → getD stack (2 * (build .count - sizes .k)) 0 / 4 ^ i ≡ build .last / 4 ^ i → ⊥)
-      → CompletePacked sizes layout words stack build limit to codes
-  all-packed none = record {
+  pub all-packed : NothingToPack (sizes .k) stack build limit → CompletePacked sizes layout words stack build limit to codes
+  all-packed nothing = record {
     grown = due .grown;
     few = λ i l. none-to-pack (sizes .k) (sizes .order) (build .last) to i placed two (due .grown .opened)
-        (λ f e. none (omega (arith, due .grown .many)) i l
+        (λ f e. nothing .none (omega (arith, due .grown .many)) i l
         (rw (code-on-stack (due .grown) (build .count - sizes .k) (omega (arith, due .grown .many, two))) (rw (due .grown .many) at e)));
   }
 
@@ -167,16 +170,44 @@ module _ {sizes : Sizes} {layout : Layout} {words stack : List ℕ} {build : Bui
         sym (drop-take (2 * first) (2 * (build .count - first)) stack) ∙ ap (λ (m : ℕ). drop (2 * first) (take m stack)) n ∙ ap (drop (2 * first)) stack-parts
         ∙ drop-at (elementWords left) (elementWords right) (2 * first) left-long
 
+    -- what the run stands for: its own pixels
+    run-number : numberOfElements layout words (build .count - first) (elementWords right) ≡ length (pixels right)
+    run-number =
+        let inside : Every (λ s. s < layout .slots) (slotsOf placed) =
+        numbered-below (blockCount placed) (layout .slots) (slotsOf placed) (omega (arith, fresh-in, due .grown .fresh-is)) (due .grown .numbered) in
+        let few : length (pixels right) ≤ largestMost = omega (
+          arith,
+          ap length (sym (due .grown .codes-are) ∙ ap pixels (packed .is) ∙ pixels-join left right),
+          length-append (pixels left) (pixels right),
+          due .room,
+          due .ground .valid .most-to,
+        ) in
+        rw (← size-right) (elements-number layout words right (stands-parts (layout .width) words left right (subst (Stands (layout .width) words) (packed .is) (due .grown .stands)) .1)
+        (every-right _ (slotsOf left) (slotsOf right) (subst (Every (λ s. s < layout .slots)) (ap slotsOf (packed .is) ∙ slots-join left right) inside))
+        (tree-numbers-parts (layout .width) words left right (subst (TreeNumbers (layout .width) words) (packed .is) (due .grown .numbers)) .1) few)
+
     -- what packing leaves
     module _ {words′ stack′ : List ℕ} {r : Build} (done : PackedRun layout build first level words words′ stack stack′ r) where
       -- no block has the slot yet
       unused : occurrences (build .fresh) (slotsOf placed) ≡ 0
       unused = due .grown .numbered (build .fresh) ∙ numbers-past (build .fresh) 1 (blockCount placed) (omega (arith, due .grown .fresh-is))
 
+      slots-kept : Every (λ s. slotPart (layout .width) words s ≡ slotPart (layout .width) words′ s) (slotsOf placed)
+      slots-kept = every-map _ _ (slotsOf placed) (λ s ne. sym (done .laid .only .others s ne)) (absent (build .fresh) (slotsOf placed) unused)
+
       stands-still : Stands (layout .width) words′ placed
-      stands-still =
-          frame (layout .width) words words′ placed
-          (every-map _ _ (slotsOf placed) (λ s ne. sym (done .laid .only .others s ne)) (absent (build .fresh) (slotsOf placed) unused)) (due .grown .stands)
+      stands-still = frame (layout .width) words words′ placed slots-kept (due .grown .stands)
+
+      numbers-still : TreeNumbers (layout .width) words′ placed
+      numbers-still = tree-numbers-kept (layout .width) words words′ placed slots-kept (due .grown .numbers)
+
+      own-number : numberWord (slotPart (layout .width) words′ (build .fresh)) ≡ length (pixels right)
+      own-number = done .laid .number-is ∙ ap (numberOfElements layout words (build .count - first)) right-words ∙ run-number
+
+      numbers-after : TreeNumbers (layout .width) words′ (left ⧺ one)
+      numbers-after =
+          let both = tree-numbers-parts (layout .width) words′ left right (subst (TreeNumbers (layout .width) words′) (packed .is) numbers-still) in
+          tree-numbers-join (layout .width) words′ left one (both .0) (own-number, both .1, tt)
 
       stands-after : Stands (layout .width) words′ (left ⧺ one)
       stands-after =
@@ -219,6 +250,7 @@ module _ {sizes : Sizes} {layout : Layout} {words stack : List ℕ} {build : Bui
           many = omega (arith, done .count-is, size-join left one, size-left);
           on-stack = rw (done .count-is) stack-after;
           stands = stands-after;
+          numbers = numbers-after;
           fresh-is = omega (arith, done .fresh-is, due .grown .fresh-is, blocks-after);
           numbered = numbered-after;
           opened = rw (done .last-is) (packed .opened (build .fresh));

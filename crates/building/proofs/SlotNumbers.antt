@@ -32,7 +32,7 @@ numbers-past s first zero h = refl
 numbers-past s first (suc n) h = occurrences-other s first (numbersFrom (suc first) n) (λ e. omega arith) ∙ numbers-past s (suc first) n (omega arith)
 
 -- numbers that do not occur from a limit on are below it
-pub all-below : (limit : ℕ) (l : List ℕ) → ((s : ℕ) → limit ≤ s → occurrences s l ≡ 0) → Every (λ s. s < limit) l
+all-below : (limit : ℕ) (l : List ℕ) → ((s : ℕ) → limit ≤ s → occurrences s l ≡ 0) → Every (λ s. s < limit) l
 all-below limit [] h = tt
 all-below limit (x ∷ l) h = (
   first (decLt x limit),
@@ -42,6 +42,10 @@ all-below limit (x ∷ l) h = (
     first : Dec (x < limit) → x < limit
     first (yes b) = b
     first (no b) = absurd (omega (arith, h x (omega arith), occurrences-same x l))
+
+-- the slots of blocks numbered from 1 on are below a limit that the last one is below
+pub numbered-below : (n limit : ℕ) (l : List ℕ) → suc n ≤ limit → ((s : ℕ) → occurrences s l ≡ occurrences s (numbersFrom 1 n)) → Every (λ s. s < limit) l
+numbered-below n limit l h same = all-below limit l (λ s b. same s ∙ numbers-past s 1 n (omega arith))
 
 pub shared-out : (slots n : ℕ) (used : List ℕ) → suc n ≤ slots → ((s : ℕ) → occurrences s used ≡ occurrences s (numbersFrom 1 n))
     → SlotsShared slots (0 ∷ (used ++ [])) (numbersFrom (suc n) (slots - suc n))

@@ -11,12 +11,14 @@ use Rattle.measures.specs.declared.sizes.Sizes.{Sizes}
 use Rattle.measures.specs.declared.sizes.Layout.{Layout}
 use Rattle.store.specs.Element.{blockTag}
 use Rattle.store.specs.Placed.{Placed}
+use Rattle.store.specs.Numbers.{numberOfElements}
 use Rattle.store.proofs.Standing.{elementWords}
 use Rattle.store.proofs.PlacedJoin.{length-element-words}
+use Rattle.store.proofs.ElementNumbers.{number-of-front}
 use Rattle.building.specs.declared.build.Build.{Build}
 use Rattle.building.specs.Growing.{codeOfElement}
 use Rattle.building.specs.Blocks.{BlockLaid}
-use Rattle.building.specs.Build.{PackDue, PackedRun, Grown}
+use Rattle.building.specs.Build.{PackDue, packedWords, PackedRun, Grown}
 
 -- the code of element i is word 2i
 word-code : (t : Placed) (i : ℕ) → i < size t → getD (elementWords t) (2 * i) 0 ≡ codeOfElement t i
@@ -49,13 +51,17 @@ module _ {sizes : Sizes} {layout : Layout} {words stack : List ℕ} {build : Bui
       ∙ word-code (g .placed) i (omega (arith, g .many))
 
 -- what the code writes of a run
-pub run-packed : {layout : Layout} {build : Build} {level : ℕ} {words words′ : List ℕ} (stack : List ℕ) (first code tag : ℕ) → code ≡ blockCode level (build .last)
-    → tag ≡ blockTag (build .fresh) level → PackDue layout words stack build first level
-    → BlockLaid (layout .width) (build .fresh) level code (take (2 * (build .count - first)) (take (length stack - 2 * first) (drop (2 * first) stack))) words words′
+pub run-packed : {layout : Layout} {build : Build} {level : ℕ} {words words′ : List ℕ} (stack : List ℕ) (first code tag number : ℕ) → code ≡ blockCode level (build .last)
+    → tag ≡ blockTag (build .fresh) level → number ≡ numberOfElements layout words (build .count - first) (take (length stack - 2 * first) (drop (2 * first) stack))
+    → PackDue layout words stack build first level
+    → BlockLaid (layout .width) (build .fresh) level code number (take (2 * (build .count - first)) (take (length stack - 2 * first) (drop (2 * first) stack))) words words′
     → PackedRun layout build first level words words′ stack (set (set stack (2 * first) code) (2 * first + 1) tag)
     (record { count = first + 1; fresh = build .fresh + 1; last = build .last })
-run-packed {build = build} stack first code tag code-is tag-is due laid =
-    let n : ℕ = 2 * (build .count - first) in
-    let part : take n (take (length stack - 2 * first) (drop (2 * first) stack)) ≡ take n (drop (2 * first) stack) =
-    take-take n (length stack - 2 * first) (drop (2 * first) stack) (omega (arith, due .there, due .some)) in
-    record { laid = rw (← code-is) (rw part at laid); stack-is = rw (code-is, tag-is); count-is = refl; fresh-is = refl; last-is = refl }
+run-packed {layout} {build} {words = words} stack first code tag number code-is tag-is number-is due laid =
+    let n : ℕ = build .count - first in
+    let lent : List ℕ = take (length stack - 2 * first) (drop (2 * first) stack) in
+    let part : take (2 * n) lent ≡ packedWords stack build first =
+    take-take (2 * n) (length stack - 2 * first) (drop (2 * first) stack) (omega (arith, due .there, due .some)) in
+    let counted : numberOfElements layout words n (packedWords stack build first) ≡ number =
+    ap (numberOfElements layout words n) (sym part) ∙ number-of-front layout words n lent ∙ sym number-is in
+    record { laid = rw (← code-is, counted) (rw part at laid); stack-is = rw (code-is, tag-is); count-is = refl; fresh-is = refl; last-is = refl }

@@ -1,6 +1,7 @@
 -- The stack on which a register is built, and what each step makes of it.
 use Prim.Native.Nat.{ℕ, suc, _+_, _-_, _*_, _/_, _^_, _≤_, _<_}
 use mathlib.Core.Path.{_≡_}
+use mathlib.Core.Bool.{Bool, true}
 use mathlib.Core.List.{List, [], _∷_, _++_}
 use lib.ListN.{length, getD, take, drop, set}
 use Rattle.pktree.specs.Lists.{Every}
@@ -20,7 +21,9 @@ use Rattle.measures.specs.Slot.{elementIndex}
 use Rattle.store.specs.Element.{blockTag}
 use Rattle.store.specs.Placed.{Placed, slotsOf}
 use Rattle.store.specs.FreeSlots.{occurrences, numbersFrom}
+use Rattle.store.specs.Numbers.{numberOfElements}
 use Rattle.store.proofs.Standing.{elementWords, Stands}
+use Rattle.store.proofs.BlockNumbers.{TreeNumbers}
 use Rattle.building.specs.declared.build.Build.{Build}
 use Rattle.building.specs.Growing.{Open, mostOpen, stackWords}
 use Rattle.building.specs.Blocks.{BlockLaid}
@@ -28,6 +31,13 @@ use Rattle.building.specs.Blocks.{BlockLaid}
 -- nothing is built yet: no element is on the stack, and slot 0 is the root's
 abbrev pub emptyBuild : Build
 emptyBuild = record { count = 0; fresh = 1; last = 0 }
+
+-- the first of the last k elements lies in no block around the last code of a level below the limit
+pub record NothingToPack (k : ℕ) (stack : List ℕ) (build : Build) (limit : ℕ) : Type 0 where
+  pub none : k ≤ build .count → (i : ℕ) → i < limit → getD stack (2 * (build .count - k)) 0 / 4 ^ i ≡ build .last / 4 ^ i → ⊥
+
+pub record NoneComplete (k : ℕ) (stack : List ℕ) (build : Build) (limit : ℕ) (r : Bool) : Type 0 where
+  pub says : r ≡ true → NothingToPack k stack build limit
 
 -- r is the first of the elements before `from` that lie, with all after them, in the block of this level around the code
 pub record RunStart (stack : List ℕ) (from code level r : ℕ) : Type 0 where
@@ -44,9 +54,14 @@ pub record PackDue (layout : Layout) (words stack : List ℕ) (build : Build) (f
   pub room : elementIndex (build .count - first) ≤ layout .width
   pub level-to : level ≤ 15
 
--- the elements from `first` on are a block in the next slot, and one element on the stack
+-- the words of the elements from `first` on
+abbrev pub packedWords : List ℕ → Build → ℕ → List ℕ
+packedWords stack build first = take (2 * (build .count - first)) (drop (2 * first) stack)
+
+-- the elements from `first` on are a block in the next slot, with the number of pixels that they stand for, and one element on the stack
 pub record PackedRun (layout : Layout) (build : Build) (first level : ℕ) (words words′ stack stack′ : List ℕ) (r : Build) : Type 0 where
-  pub laid : BlockLaid (layout .width) (build .fresh) level (blockCode level (build .last)) (take (2 * (build .count - first)) (drop (2 * first) stack)) words words′
+  pub laid : BlockLaid (layout .width) (build .fresh) level (blockCode level (build .last)) (numberOfElements layout words (build .count - first) (packedWords stack build first))
+      (packedWords stack build first) words words′
   pub stack-is : stack′ ≡ set (set stack (2 * first) (blockCode level (build .last))) (2 * first + 1) (blockTag (build .fresh) level)
   pub count-is : r .count ≡ first + 1
   pub fresh-is : r .fresh ≡ build .fresh + 1
@@ -70,12 +85,13 @@ pub record Ground (sizes : Sizes) (layout : Layout) (words stack : List ℕ) : T
   pub fits : LayoutFits layout words
   pub stack-long : length stack ≡ stackWords
 
--- the first codes, built: the elements on the stack, below `to`, and the blocks among them in slots 1, 2 and so on
+-- the first codes, built: the elements on the stack, below `to`, and the blocks among them, with their numbers, in slots 1, 2 and so on
 pub record Grown (sizes : Sizes) (layout : Layout) (words stack : List ℕ) (build : Build) (to : ℕ) (codes : List ℕ) : Type 0 where
   pub placed : Placed
   pub many : size placed ≡ build .count
   pub on-stack : take (2 * build .count) stack ≡ elementWords placed
   pub stands : Stands (layout .width) words placed
+  pub numbers : TreeNumbers (layout .width) words placed
   pub fresh-is : build .fresh ≡ suc (blockCount placed)
   pub numbered : (s : ℕ) → occurrences s (slotsOf placed) ≡ occurrences s (numbersFrom 1 (blockCount placed))
   pub opened : Open (sizes .k) (sizes .order) (build .last) to placed

@@ -2,7 +2,7 @@ ghost use Prim.Native.Nat.{_*_, _+_, _≤_, _<_};
 ghost use mathlib.Core.Path.{_≡_};
 ghost use lib.ListN.{length};
 ghost use Rattle.building.specs.Growing.{stackWords};
-ghost use Rattle.building.specs.Build.{emptyBuild, RunStart, PackDue, PackedRun, PushDue, PushedCode, PackCompleteDue, PackCompleteDone, AppendDue, AppendDone};
+ghost use Rattle.building.specs.Build.{emptyBuild, NoneComplete, RunStart, PackDue, PackedRun, PushDue, PushedCode, PackCompleteDue, PackCompleteDone, AppendDue, AppendDone};
 use crate::blocks::lay_block;
 use measures::sizes::Layout;
 use measures::sizes::Sizes;
@@ -11,6 +11,7 @@ use morton::block_around;
 use morton::block_index;
 use morton::common_level;
 use store::elements::block_tag;
+use store::sums::number_of_elements;
 
 // What is built so far: the elements on the stack, the next slot, and the last code.
 pub struct Build {
@@ -57,7 +58,7 @@ fn run_start(stack: &[u32], from: usize, code: u32, level: u32) -> usize
     start
 }
 
-// The elements from `first` on go to the next slot, as one block, which stands on the stack in their place.
+// The elements from `first` on go to the next slot, as one block with the number of their pixels, which stands on the stack in their place.
 fn pack(
     store: &mut [u32],
     layout: Layout,
@@ -74,15 +75,10 @@ fn pack(
     let last = build.last;
     let code = block_around(last, level);
     let from = 2 * first;
-    lay_block(
-        store,
-        layout,
-        fresh,
-        level,
-        code,
-        &stack[from..],
-        count - first,
-    );
+    let size = count - first;
+    let run = &stack[from..];
+    let number = number_of_elements(store, layout, run, size);
+    lay_block(store, layout, fresh, level, code, run, size, number);
     stack[from] = code;
     stack[from + 1] = block_tag(fresh as u32, level);
     Build {
@@ -134,6 +130,18 @@ fn push(stack: &mut [u32], build: Build, code: u32) -> Build
     }
 }
 
+// Whether no block around the last code, of a level below the limit, has k elements: so it is with most codes, and nothing is to be packed.
+fn none_complete(stack: &[u32], k: usize, build: Build, limit: u32) -> bool
+    requires { ⌜ (2 * build .count ≤ length (now stack)) × (1 ≤ k) ⌝ }
+    ensures { λ r. ⌜ NoneComplete k (now (stack .entry)) build limit r ⌝ }
+{
+    let count = build.count;
+    if count < k {
+        return true;
+    }
+    limit <= common_level(stack[2 * (count - k)], build.last)
+}
+
 // The next code: the blocks that it lies beyond are complete.
 pub fn append(
     store: &mut [u32],
@@ -146,13 +154,10 @@ pub fn append(
     requires { ⌜ AppendDue sizes layout (now store) (now stack) build code ⌝ }
     ensures { λ r. ⌜ AppendDone sizes layout build code (now (store .entry)) (now (store .exit)) (now (stack .entry)) (now (stack .exit)) r ⌝ }
 {
-    let packed = pack_complete(
-        store,
-        sizes,
-        layout,
-        stack,
-        build,
-        common_level(build.last, code),
-    );
+    let limit = common_level(build.last, code);
+    if none_complete(stack, wide(sizes.k), build, limit) {
+        return push(stack, build, code);
+    }
+    let packed = pack_complete(store, sizes, layout, stack, build, limit);
     push(stack, packed, code)
 }

@@ -4,7 +4,6 @@ use crate::build::Build;
 use crate::build::pack_complete;
 use measures::sizes::Layout;
 use measures::sizes::Sizes;
-use measures::words::PIXELS;
 use store::free::free_from;
 
 // All codes are appended: what is left on the stack are the root's elements.
@@ -22,7 +21,6 @@ pub fn finish(
     let root = pack_complete(store, sizes, layout, stack, build, sizes.order);
     let count = root.count;
     let fresh = root.fresh;
-    lay_block(store, layout, 0, sizes.order, 0, stack, count);
+    lay_block(store, layout, 0, sizes.order, 0, stack, count, number);
     free_from(store, layout, fresh);
-    store[PIXELS] = number;
 }

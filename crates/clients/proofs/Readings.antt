@@ -1,5 +1,5 @@
 -- What the calls that only read answer on the first panel: by equation, and worked out.
-use Prim.Native.Nat.{ℕ, _≤_, _<_}
+use Prim.Native.Nat.{ℕ, _^_, _≤_, _<_}
 use native.Mathlib.Omega.{arith}
 use mathlib.Core.Bool.{true, false}
 use mathlib.Core.Path.{_≡_, refl, ap, sym, subst, _∙_}
@@ -10,7 +10,7 @@ use Rattle.pktree.specs.Panel.{HasPixel}
 use Rattle.pktree.specs.PixelSet.{member}
 use Rattle.pktree.specs.Elements.{gather}
 use Rattle.pktree.specs.Tree.{tree}
-use Rattle.pktree.specs.Window.{Ordered, someFrom, openedByPixel}
+use Rattle.pktree.specs.Window.{Ordered, someFrom, everyFrom, openedByPixel}
 use Rattle.pktree.specs.Image.{image}
 use Rattle.searching.specs.Distance.{squaredDistance, blockDistance}
 use Rattle.searching.specs.Search.{continued}
@@ -24,8 +24,9 @@ use Rattle.promises.specs.Calls.{asked, MarkMeets, ClearMeets, AskMeets, Neares
 use Rattle.promises.proofs.Answers.{refusal-of}
 use Rattle.promises.proofs.Exactly.{image-loaded, set-filled, check-answers}
 use Rattle.promises.proofs.OnSound.{mark-already, clear-unmarked, clear-removes, ask-answers, count-answers, list-writes, list-short, save-writes, save-short}
+use Rattle.promises.proofs.WholePanel.{count-whole}
 use Rattle.promises.proofs.Nearest.{nearest-answers}
-use Rattle.clients.specs.Known.{firstSet, HoldsOf9, HoldsFirst, firstImage, PanelAsked, values, PanelSearched, partFound, partAnswer, PanelCounted, PanelListed, PanelSaved, ClearedListed, SpoiltOf9}
+use Rattle.clients.specs.Known.{firstSet, HoldsOf9, HoldsFirst, firstImage, PanelAsked, values, PanelSearched, partFound, partListed, partCounted, PanelCounted, PanelListed, PanelSaved, ClearedListed, SpoiltOf9}
 
 -- the set is one of the panel, and its image is these bytes, by computation
 has-image : HasImage (panelOf (asked 3 3 9)) 9 firstImage firstSet
@@ -56,20 +57,30 @@ whole-search : nearestOn (panelOf (asked 3 3 9)) firstSet (codeOf 1 1) 9 ≡ val
 unfolding interleave gather gatherBits squaredDistance blockDistance continued
 whole-search = refl
 
-upper-right : partAnswer (windowGiven 4 4 7 7) firstSet (asked 3 3 9) ≡ accepted 1 1
-unfolding gather gatherBits someFrom
+upper-right : partCounted (windowGiven 4 4 7 7) firstSet (asked 3 3 9) ≡ accepted 1 1
+unfolding gather gatherBits someFrom everyFrom
 upper-right = refl
 
 -- over the right and the upper edge, to the largest coordinate of a call
-over-edges : partAnswer (windowGiven 6 6 9 4294967295) firstSet (asked 3 3 9) ≡ accepted 1 1
-unfolding gather gatherBits someFrom
+over-edges : partCounted (windowGiven 6 6 9 4294967295) firstSet (asked 3 3 9) ≡ accepted 1 1
+unfolding gather gatherBits someFrom everyFrom
 over-edges = refl
+
+-- the first column goes through the root and the block 1/0, which has pixels on both sides of its edge
+across-block : partCounted (windowGiven 0 0 0 7) firstSet (asked 3 3 9) ≡ accepted 2 2
+unfolding gather gatherBits someFrom everyFrom
+across-block = refl
+
+-- the block 1/0 wholly inside is taken by its number
+around-block : partCounted (windowGiven 0 0 1 7) firstSet (asked 3 3 9) ≡ accepted 3 1
+unfolding gather gatherBits someFrom everyFrom
+around-block = refl
 
 all-codes : partFound (windowGiven 0 0 7 7) firstSet (asked 3 3 9) ≡ firstSet
 unfolding gatherBits
 all-codes = refl
 
-all-found : partAnswer (windowGiven 0 0 7 7) firstSet (asked 3 3 9) ≡ accepted 4 2
+all-found : partListed (windowGiven 0 0 7 7) firstSet (asked 3 3 9) ≡ accepted 4 2
 unfolding gather gatherBits someFrom
 all-found = refl
 
@@ -98,6 +109,12 @@ count-window p = p .says (record { x-ordered = omega arith; y-ordered = omega ar
 pub count-over-edges : {a : Answer} → PanelCounted (windowGiven 6 6 9 4294967295) a → a ≡ accepted 1 1
 count-over-edges p = p .says (record { x-ordered = omega arith; y-ordered = omega arith }) ∙ over-edges
 
+pub count-across-block : {a : Answer} → PanelCounted (windowGiven 0 0 0 7) a → a ≡ accepted 2 2
+count-across-block p = p .says (record { x-ordered = omega arith; y-ordered = omega arith }) ∙ across-block
+
+pub count-around-block : {a : Answer} → PanelCounted (windowGiven 0 0 1 7) a → a ≡ accepted 3 1
+count-around-block p = p .says (record { x-ordered = omega arith; y-ordered = omega arith }) ∙ around-block
+
 module _ {words : List ℕ} (h : HoldsFirst words) where
   on-9 : {x y : ℕ} → HasPixel (panelOf (asked 3 3 9)) x y → HasPixelOn words x y
   on-9 {x} {y} on = subst (λ (s : Sizes). HasPixel (panelOf s) x y) (sym (h .sizes-are)) on
@@ -121,8 +138,14 @@ module _ {words : List ℕ} (h : HoldsFirst words) {a : Answer} where
 
   pub counted-panel : {x0 y0 x1 y1 : ℕ} → CountMeets words x0 y0 x1 y1 a → PanelCounted (windowGiven x0 y0 x1 y1) a
   counted-panel {x0} {y0} {x1} {y1} m = record {
-    says = λ ordered. subst (λ (s : Sizes). a ≡ partAnswer (windowGiven x0 y0 x1 y1) firstSet s) (h .sizes-are) (count-answers (h .holds) ordered m);
+    says = λ ordered. subst (λ (s : Sizes). a ≡ partCounted (windowGiven x0 y0 x1 y1) firstSet s) (h .sizes-are) (count-answers (h .holds) ordered m);
   }
+
+  -- 02, P6: of the whole panel
+  pub whole-panel : CountMeets words 0 0 7 7 a → a ≡ accepted 4 0
+  whole-panel m =
+      let side : 2 ^ sizesOf words .order ≡ 8 = ap (λ (z : Sizes). 2 ^ z .order) (h .sizes-are) in
+      count-whole (h .holds) 7 7 (omega (arith, side)) (omega (arith, side)) m
 
   pub listed-panel : {before after : List ℕ} → ListMeets words 0 0 7 7 before after a → PanelListed before after a
   listed-panel {before} {after} m =
@@ -130,7 +153,7 @@ module _ {words : List ℕ} (h : HoldsFirst words) {a : Answer} where
       let codes : partFound (windowGiven 0 0 7 7) firstSet (sizesOf words) ≡ firstSet = subst (λ (s : Sizes). partFound (windowGiven 0 0 7 7) firstSet s ≡ firstSet) (sym (h .sizes-are)) all-codes in
       record {
         written = λ room. let w = list-writes (h .holds) ordered m (subst (λ (l : List ℕ). length l ≤ length before) (sym codes) room) in (
-          subst (λ (s : Sizes). a ≡ partAnswer (windowGiven 0 0 7 7) firstSet s) (h .sizes-are) (w .0) ∙ all-found,
+          subst (λ (s : Sizes). a ≡ partListed (windowGiven 0 0 7 7) firstSet s) (h .sizes-are) (w .0) ∙ all-found,
           subst (λ (l : List ℕ). after ≡ l ++ drop (length l) before) codes (w .1),
         );
         lacking = λ lacks. let r = list-short (h .holds) ordered m (subst (λ (l : List ℕ). length before < length l) (sym codes) lacks) in
@@ -174,7 +197,7 @@ module _ {words : List ℕ} (h : HoldsFirst words) {after : List ℕ} {a : Answe
       let codes : partFound (windowGiven 0 0 7 7) left (sizesOf after) ≡ left = subst (λ (z : Sizes). partFound (windowGiven 0 0 7 7) left z ≡ left) (sym s) refl in
       record {
         written = λ room. let w = list-writes (c .holds) (record { x-ordered = omega arith; y-ordered = omega arith }) l (subst (λ (f : List ℕ). length f ≤ length before) (sym codes) room) in (
-          subst (λ (z : Sizes). b ≡ partAnswer (windowGiven 0 0 7 7) left z) s (w .0),
+          subst (λ (z : Sizes). b ≡ partListed (windowGiven 0 0 7 7) left z) s (w .0),
           subst (λ (f : List ℕ). written ≡ f ++ drop (length f) before) codes (w .1),
         );
       }

@@ -9,7 +9,7 @@ use Rattle.morton.specs.Code.{codeOf}
 use Rattle.pktree.specs.Panel.{HasPixel}
 use Rattle.pktree.specs.PixelSet.{member}
 use Rattle.pktree.specs.Tree.{tree}
-use Rattle.pktree.specs.Window.{Window, Ordered, partOn, found, openedByPixel, openedByWindow}
+use Rattle.pktree.specs.Window.{Window, Ordered, partOn, found, openedByPixel, openedByWindow, crossedByWindow}
 use Rattle.searching.specs.Nearest.{Nearest}
 use Rattle.searching.specs.NearestPromises.{nearestOn}
 use Rattle.measures.specs.declared.sizes.Sizes.{Sizes}
@@ -58,16 +58,19 @@ values isFound code distance opened limit complete =
 pub record PanelSearched (x y budget : ℕ) (a : Answer) : Type 0 where
   pub says : HasPixel (panelOf (asked 3 3 9)) x y → 1 ≤ budget → a ≡ searched (nearestOn (panelOf (asked 3 3 9)) firstSet (codeOf x y) budget)
 
--- what the window's part on a panel of these sizes has of a set, and how many blocks of the set's tree share a pixel with it
+-- what the window's part on a panel of these sizes has of a set, with the blocks of the set's tree that a list opens, or a count
 abbrev pub partFound : Window → List ℕ → Sizes → List ℕ
 partFound window set sizes = found (partOn (panelOf sizes) window) set
 
-abbrev pub partAnswer : Window → List ℕ → Sizes → Answer
-partAnswer window set sizes = accepted (length (partFound window set sizes)) (openedByWindow (partOn (panelOf sizes) window) (tree (panelOf sizes) (member set)))
+abbrev pub partListed : Window → List ℕ → Sizes → Answer
+partListed window set sizes = accepted (length (partFound window set sizes)) (openedByWindow (partOn (panelOf sizes) window) (tree (panelOf sizes) (member set)))
+
+abbrev pub partCounted : Window → List ℕ → Sizes → Answer
+partCounted window set sizes = accepted (length (partFound window set sizes)) (crossedByWindow (partOn (panelOf sizes) window) (tree (panelOf sizes) (member set)))
 
 -- count, of any window: its part's numbers
 pub record PanelCounted (window : Window) (a : Answer) : Type 0 where
-  pub says : Ordered window → a ≡ partAnswer window firstSet (asked 3 3 9)
+  pub says : Ordered window → a ≡ partCounted window firstSet (asked 3 3 9)
 
 -- list of the whole panel: its four codes in rising order, two blocks opened; or 9 with the words needed
 pub record PanelListed (before after : List ℕ) (a : Answer) : Type 0 where

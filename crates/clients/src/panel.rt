@@ -100,6 +100,38 @@ pub fn count_over_edges() -> Counting
     count_panel(&mut store, 6, 6, 9, 0xFFFFFFFF)
 }
 
+// 02, P6: the column x = 0 goes across the root and the block 1/0: both are opened, and each pixel is tested.
+pub fn count_across_block() -> Counting
+    ensures { λ r. ⌜ countAnswer r ≡ accepted 2 2 ⌝ }
+{
+    let mut store = [0u32; 148];
+    count_panel(&mut store, 0, 0, 0, 7)
+}
+
+// With the column x = 1 the block 1/0 lies wholly inside: it is taken by its number, and the root alone is opened.
+pub fn count_around_block() -> Counting
+    ensures { λ r. ⌜ countAnswer r ≡ accepted 3 1 ⌝ }
+{
+    let mut store = [0u32; 148];
+    count_panel(&mut store, 0, 0, 1, 7)
+}
+
+fn count_all(store: &mut [u32]) -> Counting
+    requires { ⌜ 148 ≤ length (now store) ⌝ }
+    ensures { λ r. ⌜ countAnswer r ≡ accepted 4 0 ⌝ }
+{
+    first_panel(store);
+    register::count(store, 0, 0, 7, 7)
+}
+
+// 02, P6: the whole panel opens no block.
+pub fn count_whole_panel() -> Counting
+    ensures { λ r. ⌜ countAnswer r ≡ accepted 4 0 ⌝ }
+{
+    let mut store = [0u32; 148];
+    count_all(&mut store)
+}
+
 fn list_panel(store: &mut [u32], output: &mut [u32]) -> Listing
     requires { ⌜ 148 ≤ length (now store) ⌝ }
     ensures { λ r. ⌜ PanelListed (now (output .entry)) (now (output .exit)) (listAnswer r) ⌝ }

@@ -6,20 +6,22 @@ use mathlib.Core.Bool.{Bool, true, false}
 use mathlib.Core.List.{List}
 use lib.ListN.{length, length-append, set, length-set}
 use Rattle.pktree.specs.Elements.{Forest, empty, pixel, _⧺_}
-use Rattle.pktree.specs.Window.{Ordered}
-use Rattle.query.specs.declared.window.Corners.{Corners}
-use Rattle.query.specs.Corners.{windowBetween, PixelTested}
-use Rattle.query.specs.Counting.{Findings, ofElements, ofAll}
+use Rattle.pktree.specs.Window.{Ordered, openedByWindow}
+use Rattle.windows.specs.declared.Corners.{Corners}
+use Rattle.windows.specs.Corners.{windowBetween, PixelTested}
+use Rattle.measures.specs.Sizes.{largestMost}
+use Rattle.query.specs.Counting.{Findings, ofElements}
+use Rattle.query.proofs.Opens.{list-opens}
 use Rattle.query.proofs.Findings.{Additive, room-first, room-second, count-walk}
 use Rattle.query.proofs.SeenParts.{pixel-outside, pixel-inside}
 use Rattle.query.proofs.Counts.{outside-not-counted, pixel-counted}
 use Rattle.walks.proofs.Walks.{Walk}
-use Rattle.listing.specs.Listing.{Lists, CodeWritten, PixelListed}
+use Rattle.listing.specs.Listing.{ofAll, Lists, CodeWritten, PixelListed}
 use Rattle.listing.proofs.WrittenAt.{written-none, written-one, written-join, length-written}
 
-lists-join : {findings : Findings} {slots : ℕ} {s t u : List ℕ × ℕ × ℕ × ℕ} {f g : Forest} → Additive findings → Lists findings slots s f t → Lists findings slots t g u
-    → Lists findings slots s (f ⧺ g) u
-lists-join {findings} {slots} {s} {t} {u} {f} {g} add p q =
+lists-join : {findings : Findings} {most slots : ℕ} {s t u : List ℕ × ℕ × ℕ × ℕ} {f g : Forest} → Additive findings → Lists findings most slots s f t → Lists findings most slots t g u
+    → Lists findings most slots s (f ⧺ g) u
+lists-join {findings} {most} {slots} {s} {t} {u} {f} {g} add p q =
     record {
       counts = count-walk add .join (p .counts) (q .counts);
       wrote = λ room fits.
@@ -31,7 +33,7 @@ lists-join {findings} {slots} {s} {t} {u} {f} {g} add p q =
           wg ∙ rw (wf, a .found-is, add .codes-join f g) (written-join (s .0) (s .1) (findings .codes f) (findings .codes g) (omega (arith, l)));
     }
 
-pub list-walk : {findings : Findings} {slots : ℕ} → Additive findings → Walk (Lists findings slots)
+pub list-walk : {findings : Findings} {most slots : ℕ} → Additive findings → Walk (Lists findings most slots)
 list-walk add =
     record { none = λ s. record { counts = count-walk add .none (s .1, s .2, s .3); wrote = λ room fits. rw (add .no-codes) (sym (written-none (s .0) (s .1))) }; join = lists-join add }
 
@@ -46,7 +48,7 @@ module _ {code at : ℕ} {before : List ℕ} where
   pub code-written : {i r : ℕ} → i ≡ at → i < length before → r ≡ (at + 1) % 2 ^ 32 → CodeWritten code at before (set before i code) r
   code-written is room sum = record { counted = λ few. omega (arith, sum); long = length-set before _ code; wrote = λ fits. rw is (written-one before at code (omega arith)) }
 
-pub code-added : {slots c n m r : ℕ} {before after : List ℕ} → CodeWritten c n before after r → Lists ofAll slots (before, n, m, 0) (pixel c empty) (after, r, m, 0)
+pub code-added : {slots c n m r : ℕ} {before after : List ℕ} → CodeWritten c n before after r → Lists ofAll largestMost slots (before, n, m, 0) (pixel c empty) (after, r, m, 0)
 code-added w =
     record {
       counts = record { says = λ room. record { found-is = w .counted (room .few-found); opened-is = omega arith; tested-is = omega arith } };
@@ -71,6 +73,6 @@ module _ {corners : Corners} {c at : ℕ} {before : List ℕ} {b : Bool} (tested
         wrote = λ o. rw (pixel-inside (windowBetween corners) c (sym (tested .says o) ∙ e)) (w .wrote);
       }
 
-pub pixel-listed : (corners : Corners) {slots c n m x y r : ℕ} {before after : List ℕ} → Ordered (windowBetween corners) → y ≡ (x + 1) % 2 ^ 32 → PixelListed corners c n before after r
-    → Lists (ofElements (windowBetween corners)) slots (before, n, m, x) (pixel c empty) (after, r, m, y)
-pixel-listed corners ordered one p = record { counts = pixel-counted corners ordered one (p .counted); wrote = λ room fits. p .wrote ordered fits }
+pub pixel-listed : (corners : Corners) {most slots c n m x y r : ℕ} {before after : List ℕ} → Ordered (windowBetween corners) → y ≡ (x + 1) % 2 ^ 32 → most ≤ largestMost
+    → PixelListed corners c n before after r → Lists (ofElements openedByWindow (windowBetween corners)) most slots (before, n, m, x) (pixel c empty) (after, r, m, y)
+pixel-listed corners ordered one few p = record { counts = pixel-counted corners (list-opens (windowBetween corners)) ordered one few (p .counted); wrote = λ room fits. p .wrote ordered fits }

@@ -2,16 +2,17 @@
 ghost use Prim.Native.Nat.{_≤_};
 ghost use lib.ListN.{length};
 ghost use mathlib.Core.Path.{_≡_};
-ghost use Rattle.pktree.specs.Window.{Ordered};
 ghost use Rattle.measures.specs.Layout.{LayoutFits};
 ghost use Rattle.measures.specs.Sizes.{UsableStore, sizesOf, panelOf};
 ghost use Rattle.promises.specs.Effect.{effect};
 ghost use Rattle.promises.specs.Calls as calls;
 ghost use Rattle.answers.specs.Answer.{listAnswer};
-ghost use Rattle.query.specs.Corners.{windowOf, windowBetween, PartCorners};
+ghost use Rattle.windows.specs.Corners.{windowOf, windowBetween, PartCorners};
+ghost use Rattle.query.specs.Counting.{CanQuery};
 ghost use Rattle.listing.specs.Listing.{CodeWritten, PixelListed, InsideListed, BlockListed, RootListed, CountedBefore};
 use answers::Counting;
 use answers::Listing;
+use answers::Refusal;
 use measures::sizes::Layout;
 use measures::sizes::Sizes;
 use measures::sizes::layout_of;
@@ -23,18 +24,18 @@ use query::walk::RangeQuery;
 use query::walk::Sum;
 use query::walk::open_next;
 use query::walk::within;
-use query::window::Corners;
-use query::window::Part;
-use query::window::Window;
-use query::window::has_pixel;
-use query::window::lies_inside;
-use query::window::meets;
-use query::window::part_on;
 use std::num::wrapping_add_u32;
 use store::elements::Element;
 use store::elements::element_at;
 use store::opening::Opening;
 use walks::part_of;
+use windows::Corners;
+use windows::Part;
+use windows::Window;
+use windows::has_pixel;
+use windows::lies_inside;
+use windows::meets;
+use windows::part_on;
 
 // A found code is written at the index of its turn; the output has room for it unless words are damaged.
 fn write_code(code: u32, output: &mut [u32], found: u32) -> u32
@@ -57,7 +58,7 @@ fn list_pixel(corners: Corners, code: u32, output: &mut [u32], found: u32) -> u3
     write_code(code, output, found)
 }
 
-// As count_inside, and each code is written to `out`, the part of the output that is lent.
+// A block wholly inside the window: nothing in it is tested, and each code is written to `out`, the part of the output that is lent.
 fn list_inside(
     store: &[u32],
     layout: Layout,
@@ -101,7 +102,7 @@ fn list_block(
     found: &mut u32,
     tested: &mut u32,
 ) -> u32
-    requires { ⌜ LayoutFits (range .layout) (now store) × Ordered (windowBetween (range .corners)) ⌝ }
+    requires { ⌜ CanQuery range (now store) ⌝ }
     ensures { λ r. ⌜ BlockListed range (now (store .entry)) above slot level code (now (out .entry)) (now (out .exit)) (now (found .entry), blocks, now (tested .entry)) (now (found .exit), r, now (tested .exit)) ⌝ }
 {
     let layout = range.layout;
@@ -130,7 +131,7 @@ fn list_block(
 
 // The walk from the root into the first n words; those past them are not lent.
 fn list_root(store: &[u32], range: RangeQuery, order: u32, output: &mut [u32], n: usize) -> Sum
-    requires { ⌜ (LayoutFits (range .layout) (now store) × Ordered (windowBetween (range .corners))) × (n ≤ length (now output)) ⌝ }
+    requires { ⌜ CanQuery range (now store) × (n ≤ length (now output)) ⌝ }
     ensures { λ r. ⌜ RootListed range (now (store .entry)) order n (now (output .entry)) (now (output .exit)) r ⌝ }
 {
     let mut found = 0;
@@ -154,7 +155,8 @@ fn list_root(store: &[u32], range: RangeQuery, order: u32, output: &mut [u32], n
     }
 }
 
-// So many pixels were counted in the part between these corners: they are written, where the output has room for them.
+// So many pixels were counted in the part between these corners: they are written, where the output has room for them. Another number of
+// pixels met than the blocks say is damage.
 fn list_counted(
     store: &[u32],
     sizes: Sizes,
@@ -170,9 +172,16 @@ fn list_counted(
         return Listing::Short(found);
     }
     let layout = layout_of(sizes);
-    let range = RangeQuery { layout, corners };
+    let range = RangeQuery {
+        layout,
+        corners,
+        most: sizes.most,
+    };
     let sum = list_root(store, range, sizes.order, output, n);
-    match within(sizes.most, layout, sum) {
+    if sum.found != found {
+        return Listing::Refused(Refusal::StoreDamaged);
+    }
+    match within(range, sum) {
         Counting::Found { found: _, opened } => Listing::Found { found, opened },
         Counting::Refused(refusal) => Listing::Refused(refusal),
     }

@@ -99,18 +99,30 @@ slot-word-set width slot words i j v e h = record {
       (drop-set-lt (headWords + slot * width + width) words i v (omega arith));
 }
 
--- one word of the store's head set, and nothing else
-pub record HeadWritten (width i v : ℕ) (before after : List ℕ) : Type 0 where
+-- the store's head has these words, and nothing else was written
+pub record HeadWritten (width : ℕ) (head : List ℕ) (before after : List ℕ) : Type 0 where
   pub long : length after ≡ length before
-  pub head : take headWords after ≡ set (take headWords before) i v
+  pub head-is : take headWords after ≡ head
   pub slots : (slot : ℕ) → slotPart width after slot ≡ slotPart width before slot
   pub past : (n : ℕ) → drop (headWords + n * width) after ≡ drop (headWords + n * width) before
 
 -- a word before all slots
-pub head-word-set : (width : ℕ) (words : List ℕ) (i v : ℕ) → i < headWords → HeadWritten width i v words (set words i v)
+pub head-word-set : (width : ℕ) (words : List ℕ) (i v : ℕ) → i < headWords → HeadWritten width (set (take headWords words) i v) words (set words i v)
 unfolding slotPart
 head-word-set width words i v h =
-    record { long = length-set words i v; head = take-set-lt headWords words i v h; slots = λ slot. ap (take width) (past slot); past = past }
+    record { long = length-set words i v; head-is = take-set-lt headWords words i v h; slots = λ slot. ap (take width) (past slot); past = past }
   where
     past : (n : ℕ) → drop (headWords + n * width) (set words i v) ≡ drop (headWords + n * width) words
     past n = drop-set-lt (headWords + n * width) words i v (omega arith)
+
+-- and one more of them
+pub head-written-then : {width : ℕ} {head : List ℕ} {before mid : List ℕ} (i v : ℕ) → i < headWords → HeadWritten width head before mid
+    → HeadWritten width (set head i v) before (set mid i v)
+head-written-then {width} {head} {before} {mid} i v h w =
+    let n = head-word-set width mid i v h in
+    record {
+      long = n .long ∙ w .long;
+      head-is = n .head-is ∙ ap (λ (l : List ℕ). set l i v) (w .head-is);
+      slots = λ slot. n .slots slot ∙ w .slots slot;
+      past = λ m. n .past m ∙ w .past m;
+    }

@@ -1,5 +1,5 @@
 -- The words of one slot, as a part of the store:
--- 0 level | 1 code | 2 number of elements | 3 next free slot | 4 to 7 unused | from 8 on two words for each element.
+-- 0 level | 1 code | 2 number of elements | 3 next free slot | 4 number of marked pixels beneath | 5 to 7 unused | from 8 on two words for each element.
 use Prim.Native.Nat.{ℕ, _+_, _*_, _≤_, _<_}
 use mathlib.Core.Path.{_≡_}
 use mathlib.Core.List.{List}
@@ -22,6 +22,9 @@ countIndex = 2
 abbrev pub nextIndex : ℕ
 nextIndex = 3
 
+abbrev pub numberIndex : ℕ
+numberIndex = 4
+
 -- so many words come before a slot's elements
 abbrev pub slotHead : ℕ
 slotHead = 8
@@ -41,6 +44,9 @@ countWord part = getD part countIndex 0
 
 abbrev pub nextWord : List ℕ → ℕ
 nextWord part = getD part nextIndex 0
+
+abbrev pub numberWord : List ℕ → ℕ
+numberWord part = getD part numberIndex 0
 
 abbrev pub elementPart : List ℕ → List ℕ
 elementPart part = drop slotHead part

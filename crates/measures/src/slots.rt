@@ -15,6 +15,8 @@ pub const COUNT: usize = 2;
 
 pub const NEXT: usize = 3;
 
+pub const NUMBER: usize = 4;
+
 // So many come before its elements, which have two words each.
 pub const SLOT_HEAD: usize = 8;
 

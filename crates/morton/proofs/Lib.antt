@@ -3,3 +3,4 @@ pub mod Blocks
 mod Fields
 pub mod CommonLevels
 pub mod Order
+pub mod Side

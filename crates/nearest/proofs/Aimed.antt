@@ -18,11 +18,11 @@ use Rattle.searching.proofs.Pruned.{pruned}
 use Rattle.searching.proofs.Spread.{Spread}
 use Rattle.frontier.specs.declared.Entry.{Entry}
 use Rattle.frontier.specs.Entries.{queued, Taken}
-use Rattle.nearest.specs.declared.best.Best.{Best}
-use Rattle.nearest.specs.declared.distance.Place.{Place}
-use Rattle.nearest.specs.Place.{placeCode}
-use Rattle.nearest.specs.Best.{bestOf}
-use Rattle.nearest.specs.Matching.{EntryOf, Matches}
+use Rattle.meeting.specs.declared.best.Best.{Best}
+use Rattle.meeting.specs.declared.distance.Place.{Place}
+use Rattle.meeting.specs.Place.{placeCode}
+use Rattle.meeting.specs.Best.{bestOf}
+use Rattle.meeting.specs.Matching.{EntryOf, Matches}
 use Rattle.nearest.specs.UnderWay.{Reached}
 use Rattle.nearest.proofs.LeastEntries.{TakenFrom, least-taken, rest-taken}
 use Rattle.nearest.proofs.EntryOrder.{matches-next, keys-apart}

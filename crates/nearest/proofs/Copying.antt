@@ -11,7 +11,7 @@ use Rattle.measures.specs.declared.sizes.Layout.{Layout}
 use Rattle.measures.specs.Sizes.{sizesOf}
 use Rattle.store.specs.Sound.{Holds}
 use Rattle.frontier.specs.Entries.{entry, queued}
-use Rattle.nearest.specs.declared.distance.Place.{Place}
+use Rattle.meeting.specs.declared.distance.Place.{Place}
 use Rattle.nearest.specs.declared.search.Progress.{Progress}
 use Rattle.nearest.specs.UnderWay.{Reached, AtStart, UnderWay, EntriesCopied}
 

@@ -16,7 +16,7 @@ use Rattle.searching.specs.Search.{distanceTo, precedes, blockPrecedes, next, o
 use Rattle.searching.specs.OpeningOrder.{InOrder}
 use Rattle.searching.proofs.Spread.{Apart, apart-codes}
 use Rattle.frontier.specs.declared.Entry.{Entry}
-use Rattle.nearest.specs.Matching.{keyCodes, keyOf, EntryOf, Matches}
+use Rattle.meeting.specs.Matching.{keyCodes, keyOf, EntryOf, Matches}
 use Rattle.nearest.specs.Turns.{codeIn, distanceIn}
 use Rattle.nearest.proofs.LeastEntries.{leastOf, withoutLeast, KeysApart}
 

@@ -23,11 +23,11 @@ use Rattle.answers.specs.declared.Searching.{Searching}
 use Rattle.answers.specs.declared.Searching.the-variants.{Refused}
 use Rattle.answers.specs.declared.Refusal.the-variants.{StoreDamaged, NoBudget}
 use Rattle.answers.specs.Answer.{valuesOf, searchAnswer}
-use Rattle.nearest.specs.declared.distance.Place.{Place}
+use Rattle.meeting.specs.declared.distance.Place.{Place}
+use Rattle.meeting.specs.Place.{PlaceOf}
 use Rattle.nearest.specs.declared.search.Progress.{Progress}
 use Rattle.nearest.specs.declared.search.Searched.{Searched}
 use Rattle.nearest.specs.declared.search.Searched.the-variants.{Known, Full, Damaged}
-use Rattle.nearest.specs.Place.{PlaceOf}
 use Rattle.nearest.specs.Searches.{SearchMeets, SearchEnds, neverFull, answerOf}
 
 abbrev Finds : List ℕ → ℕ → ℕ → Searching → Type 0

@@ -27,14 +27,14 @@ use Rattle.searching.proofs.Spread.{spread-start}
 use Rattle.frontier.specs.declared.Entry.{Entry}
 use Rattle.frontier.specs.Entries.{entry, Pushed, Taken}
 use Rattle.answers.specs.declared.Nearest.{Nearest}
-use Rattle.nearest.specs.declared.best.Best.{Best}
-use Rattle.nearest.specs.declared.distance.Place.{Place}
+use Rattle.meeting.specs.declared.best.Best.{Best}
+use Rattle.meeting.specs.declared.distance.Place.{Place}
+use Rattle.meeting.specs.Place.{placeCode, beyond, ToBlock}
+use Rattle.meeting.specs.Matching.{keyCodes, tagOf}
+use Rattle.meeting.specs.Meeting.{KeyIs, TagIs}
 use Rattle.nearest.specs.declared.search.Turn.the-variants as turn
 use Rattle.nearest.specs.declared.search.Searched.{Searched}
 use Rattle.nearest.specs.declared.search.Searched.the-variants.{Known}
-use Rattle.nearest.specs.Place.{placeCode, beyond, ToBlock}
-use Rattle.nearest.specs.Matching.{keyCodes, tagOf}
-use Rattle.nearest.specs.Meeting.{KeyIs, TagIs}
 use Rattle.nearest.specs.Turns.{distanceIn, Shut, TurnMeets}
 use Rattle.nearest.specs.UnderWay.{Reached, AtStart, Going, noBest}
 use Rattle.nearest.specs.Searches.{values, DistanceShown, Stated, Closes}

@@ -1,9 +1,3 @@
-pub mod DistanceLaws
-pub mod PassedTo
-pub mod BestLaws
-pub mod SeenElements
-pub mod MetElements
-pub mod MetBlocks
 pub mod LeastEntries
 pub mod EntryOrder
 pub mod Stating

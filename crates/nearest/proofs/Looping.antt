@@ -10,15 +10,15 @@ use Rattle.measures.specs.Layout.{LaidOut, mostElements}
 use Rattle.measures.specs.Sizes.{sizesOf}
 use Rattle.frontier.specs.declared.Entry.{Entry}
 use Rattle.frontier.specs.Entries.{Pushed, Taken}
-use Rattle.nearest.specs.declared.best.Best.{Best}
-use Rattle.nearest.specs.declared.distance.Place.{Place}
+use Rattle.meeting.specs.declared.best.Best.{Best}
+use Rattle.meeting.specs.declared.distance.Place.{Place}
+use Rattle.meeting.specs.Place.{ToBlock}
+use Rattle.meeting.specs.Meeting.{KeyIs, TagIs}
 use Rattle.nearest.specs.declared.search.Progress.{Progress}
 use Rattle.nearest.specs.declared.search.Turn.{Turn}
 use Rattle.nearest.specs.declared.search.Turn.the-variants.{Opened, Damaged}
 use Rattle.nearest.specs.declared.search.Searched.{Searched}
 use Rattle.nearest.specs.declared.search.Searched.the-variants as searched
-use Rattle.nearest.specs.Place.{ToBlock}
-use Rattle.nearest.specs.Meeting.{KeyIs, TagIs}
 use Rattle.nearest.specs.Turns.{distanceIn, TurnMeets}
 use Rattle.nearest.specs.UnderWay.{progress, UnderWay, RootMet}
 use Rattle.nearest.specs.Searches.{DistanceShown, Stated, SearchMeets}

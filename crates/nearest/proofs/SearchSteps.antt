@@ -27,13 +27,13 @@ use Rattle.searching.proofs.Pruned.{isNear, keepNext, pruned, pruned-complete, 
 use Rattle.searching.proofs.Spread.{spread-kept}
 use Rattle.frontier.specs.declared.Entry.{Entry}
 use Rattle.frontier.specs.Entries.{queued}
-use Rattle.nearest.specs.declared.best.Best.{Best}
-use Rattle.nearest.specs.declared.distance.Place.{Place}
+use Rattle.meeting.specs.declared.best.Best.{Best}
+use Rattle.meeting.specs.declared.distance.Place.{Place}
+use Rattle.meeting.specs.Place.{placeCode, beyond}
+use Rattle.meeting.specs.Best.{bestOf}
+use Rattle.meeting.specs.Matching.{Matches}
+use Rattle.meeting.specs.Meeting.{frontier, Added}
 use Rattle.nearest.specs.declared.search.Searched.{Searched}
-use Rattle.nearest.specs.Place.{placeCode, beyond}
-use Rattle.nearest.specs.Best.{bestOf}
-use Rattle.nearest.specs.Matching.{Matches}
-use Rattle.nearest.specs.Meeting.{frontier, Added}
 use Rattle.nearest.specs.Turns.{distanceIn, Turned}
 use Rattle.nearest.specs.UnderWay.{Reached}
 use Rattle.nearest.specs.Searches.{values, DistanceShown, Stated}

@@ -13,12 +13,12 @@ use Rattle.morton.proofs.Codes.{gather-below}
 use Rattle.searching.specs.Distance.{apart, squaredDistance}
 use Rattle.searching.specs.Search.{Search, found, allFarther}
 use Rattle.searching.specs.Nearest.{isSome, codeFound, distanceFound, limitOf, nearestBy}
-use Rattle.nearest.specs.declared.best.Best.{Best}
 use Rattle.answers.specs.declared.Nearest.{Nearest}
+use Rattle.meeting.specs.declared.best.Best.{Best}
+use Rattle.meeting.specs.Place.{beyond}
+use Rattle.meeting.specs.Best.{bestOf}
 use Rattle.nearest.specs.declared.search.Searched.{Searched}
 use Rattle.nearest.specs.declared.search.Searched.the-variants.{Known}
-use Rattle.nearest.specs.Place.{beyond}
-use Rattle.nearest.specs.Best.{bestOf}
 use Rattle.nearest.specs.Searches.{values, DistanceShown, Stated}
 
 -- no squared distance reaches 2 ^ 33

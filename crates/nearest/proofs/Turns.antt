@@ -18,16 +18,16 @@ use Rattle.searching.specs.Search.{pixelElements, nearestOf}
 use Rattle.frontier.specs.declared.Entry.{Entry}
 use Rattle.query.specs.Opened.{OpenedNext}
 use Rattle.query.proofs.Openings.{next-entered, never-barred}
-use Rattle.nearest.specs.declared.best.Best.{Best}
-use Rattle.nearest.specs.declared.distance.Place.{Place}
-use Rattle.nearest.specs.declared.meeting.Meeting.{Meeting}
-use Rattle.nearest.specs.declared.meeting.Meeting.the-variants as meeting
+use Rattle.meeting.specs.declared.best.Best.{Best}
+use Rattle.meeting.specs.declared.distance.Place.{Place}
+use Rattle.meeting.specs.declared.blocks.Meeting.{Meeting}
+use Rattle.meeting.specs.declared.blocks.Meeting.the-variants as meeting
+use Rattle.meeting.specs.Place.{placeCode}
+use Rattle.meeting.specs.Shown.{Shown}
+use Rattle.meeting.specs.Best.{bestOf, AfterElements}
+use Rattle.meeting.specs.Matching.{EntryOf}
+use Rattle.meeting.specs.Meeting.{frontier, Added, MetBlocks, MetCase}
 use Rattle.nearest.specs.declared.search.Turn.the-variants.{Opened, Damaged}
-use Rattle.nearest.specs.Place.{placeCode}
-use Rattle.nearest.specs.Shown.{Shown}
-use Rattle.nearest.specs.Best.{bestOf, AfterElements}
-use Rattle.nearest.specs.Matching.{EntryOf}
-use Rattle.nearest.specs.Meeting.{frontier, Added, MetBlocks, MetCase}
 use Rattle.nearest.specs.Turns.{codeIn, Shut, TurnMeets}
 use Rattle.nearest.proofs.EntryOrder.{level-told, view-told}
 

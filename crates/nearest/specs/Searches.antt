@@ -13,16 +13,16 @@ use Rattle.store.specs.Sound.{Holds}
 use Rattle.walks.proofs.RootWalk.{heldTree}
 use Rattle.searching.specs.Nearest.{isSome, codeFound, distanceFound, nearestIn}
 use Rattle.searching.specs.Nearest as searching
-use Rattle.nearest.specs.declared.best.Best.{Best}
-use Rattle.nearest.specs.declared.distance.Place.{Place}
 use Rattle.answers.specs.declared.Nearest.{Nearest}
 use Rattle.answers.specs.declared.Refusal.the-variants.{StoreDamaged}
 use Rattle.answers.specs.declared.Searching.{Searching}
 use Rattle.answers.specs.declared.Searching.the-variants.{Ended, Refused}
+use Rattle.meeting.specs.declared.best.Best.{Best}
+use Rattle.meeting.specs.declared.distance.Place.{Place}
+use Rattle.meeting.specs.Place.{placeCode}
+use Rattle.meeting.specs.Best.{bestOf}
 use Rattle.nearest.specs.declared.search.Searched.{Searched}
 use Rattle.nearest.specs.declared.search.Searched.the-variants.{Known, Full, Damaged}
-use Rattle.nearest.specs.Place.{placeCode}
-use Rattle.nearest.specs.Best.{bestOf}
 use Rattle.nearest.specs.UnderWay.{UnderWay}
 
 -- 02's six values as the code returns them

@@ -11,14 +11,14 @@ use Rattle.store.specs.Opening.{CannotOpen}
 use Rattle.searching.specs.Search.{pixelElements, nearestOf}
 use Rattle.frontier.specs.declared.Entry.{Entry}
 use Rattle.frontier.specs.Entries.{Heap}
-use Rattle.nearest.specs.declared.best.Best.{Best}
-use Rattle.nearest.specs.declared.distance.Place.{Place}
+use Rattle.meeting.specs.declared.best.Best.{Best}
+use Rattle.meeting.specs.declared.distance.Place.{Place}
+use Rattle.meeting.specs.Place.{placeCode}
+use Rattle.meeting.specs.Best.{bestOf}
+use Rattle.meeting.specs.Matching.{keyCodes, EntryOf}
+use Rattle.meeting.specs.Meeting.{frontier, Added}
 use Rattle.nearest.specs.declared.search.Turn.{Turn}
 use Rattle.nearest.specs.declared.search.Turn.the-variants.{Opened, Damaged}
-use Rattle.nearest.specs.Place.{placeCode}
-use Rattle.nearest.specs.Best.{bestOf}
-use Rattle.nearest.specs.Matching.{keyCodes, EntryOf}
-use Rattle.nearest.specs.Meeting.{frontier, Added}
 
 -- the code and the distance that an entry's key says
 abbrev pub codeIn : Entry → ℕ

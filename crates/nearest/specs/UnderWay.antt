@@ -17,12 +17,12 @@ use Rattle.searching.proofs.Pruned.{pruned}
 use Rattle.searching.proofs.Spread.{Spread}
 use Rattle.frontier.specs.declared.Entry.{Entry}
 use Rattle.frontier.specs.Entries.{Heap, queued}
-use Rattle.nearest.specs.declared.best.Best.{Best}
-use Rattle.nearest.specs.declared.distance.Place.{Place}
+use Rattle.meeting.specs.declared.best.Best.{Best}
+use Rattle.meeting.specs.declared.distance.Place.{Place}
+use Rattle.meeting.specs.Place.{placeCode, beyond}
+use Rattle.meeting.specs.Best.{bestOf}
+use Rattle.meeting.specs.Matching.{keyCodes, tagOf, Matches}
 use Rattle.nearest.specs.declared.search.Progress.{Progress}
-use Rattle.nearest.specs.Place.{placeCode, beyond}
-use Rattle.nearest.specs.Best.{bestOf}
-use Rattle.nearest.specs.Matching.{keyCodes, tagOf, Matches}
 
 -- on a sound store, when the arrays hold so many entries
 pub record Reached {words set : List ℕ} (holds : Holds words set) (layout : Layout) (place : Place) (budget : ℕ) (keys tags : List ℕ) (met opened : ℕ) (best : Best) : Type 0 where

@@ -6,11 +6,9 @@ ghost use Rattle.measures.specs.Sizes.{UsableStore, sizesOf};
 ghost use Rattle.promises.specs.Calls.{FindsNearest};
 ghost use Rattle.promises.specs.Effect.{effect};
 ghost use Rattle.answers.specs.Answer.{searchAnswer};
-ghost use Rattle.nearest.specs.Place.{OnGrid};
+ghost use Rattle.meeting.specs.Place.{OnGrid};
 ghost use Rattle.nearest.specs.UnderWay.{UnderWay, EntriesCopied};
 ghost use Rattle.nearest.specs.Searches.{SearchEnds, fewPlaces, manyPlaces, neverFull, answerOf};
-use crate::distance::Place;
-use crate::distance::place_of;
 use crate::search::AT_ROOT;
 use crate::search::Progress;
 use crate::search::Searched;
@@ -23,6 +21,8 @@ use measures::sizes::Layout;
 use measures::sizes::Sizes;
 use measures::sizes::layout_of;
 use measures::slots::MOST_ELEMENTS;
+use meeting::distance::Place;
+use meeting::distance::place_of;
 
 // Places for the blocks met and not opened at one time: nearly every search has fewer.
 const FEW_PLACES: usize = 256;

@@ -1,6 +1,3 @@
 // 02, P5: the marked pixel nearest to a place, with a budget of blocks to open.
 pub mod answer;
-pub mod best;
-pub mod distance;
-pub mod meeting;
 pub mod search;

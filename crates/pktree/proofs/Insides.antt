@@ -1,4 +1,4 @@
--- 02, P4: the blocks wholly inside a window: their two corners decide, and all in them is found and opened, and nothing tested singly.
+-- 02, P4: the blocks wholly inside a window: their two corners decide, and all in them is found, opened by a list and not by a count, and nothing tested singly.
 use Prim.Native.Nat.{ℕ, zero, suc, _+_, _-_, _*_, _/_, _%_, _^_, _≤_, _<_}
 use native.Mathlib.Omega.{arith}
 use native.Mathlib.Nat.{pow-succ', eq-or-lt-of-le}
@@ -11,12 +11,12 @@ use Rattle.morton.specs.Code.{gatherBits, xOf, yOf}
 use Rattle.pktree.specs.Panel.{Panel, Valid, Aligned, Block}
 use Rattle.pktree.specs.Elements.{Forest, empty, pixel, block, blockAt, _⧺_}
 use Rattle.pktree.specs.Tree.{BlockOf, blockOf, pixels}
-use Rattle.pktree.specs.Window.{Window, inWindow, found, everyFrom, whollyInside, openedByWindow, testedByWindow}
+use Rattle.pktree.specs.Window.{Window, inWindow, found, everyFrom, whollyInside, openedByWindow, crossedByWindow, testedByWindow}
 use Rattle.pktree.proofs.Alignment.{pow-pos}
 use Rattle.pktree.proofs.Forests.{blockCount, blockCount-join, pixels-join}
 use Rattle.pktree.proofs.Arranged.{Arranged, LocallyRight, arranged-le}
 use Rattle.pktree.proofs.Windows.{shares-pixel-exactly, in-window-exactly, block-is-square}
-use Rattle.pktree.proofs.WindowParts.{found-join, opened-join, tested-join, tested-block, block-opened}
+use Rattle.pktree.proofs.WindowParts.{found-join, opened-join, crossed-join, crossed-block, tested-join, tested-block, block-opened}
 
 -- the test of a run says that every code of it passes
 pub every-from-exactly
@@ -94,10 +94,11 @@ corners-inside-exactly window level code es low aligned ends =
           in-window-exactly window p .1 (omega (arith, square, t, side-pos level)))),
     )
 
--- elements that all lie in the window are all found, each of their blocks is opened, and none is tested singly
+-- elements that all lie in the window are all found, a list opens each of their blocks, a count none, and none is tested singly
 pub record AllSeen (window : Window) (f : Forest) : Type 0 where
   pub all-found : found window (pixels f) ≡ pixels f
   pub all-opened : openedByWindow window f ≡ blockCount f
+  pub none-crossed : crossedByWindow window f ≡ 0
   pub none-tested : testedByWindow window f ≡ 0
 
 -- this holds of two together, if of each
@@ -106,6 +107,7 @@ all-join {window} {f} {g} a b =
     record {
       all-found = rw (found-join window f g, a .all-found, b .all-found, pixels-join f g);
       all-opened = rw (opened-join window f g, a .all-opened, b .all-opened, blockCount-join f g);
+      none-crossed = omega (arith, crossed-join window f g, a .none-crossed, b .none-crossed);
       none-tested = omega (arith, tested-join window f g, a .none-tested, b .none-tested);
     }
 
@@ -119,6 +121,7 @@ all-block {window} {es} i c e a =
     record {
       all-found = rw (append-nil (pixels es)) (a .all-found);
       all-opened = omega (arith, opened .one-opened, a .all-opened);
+      none-crossed = rw (crossed-block window i c es, shares, e) (omega (arith, a .none-crossed));
       none-tested = rw (tested-block window i c es, shares, e) (omega (arith, a .none-tested));
     }
 
@@ -128,11 +131,11 @@ Inside window from to = (code : ℕ) → from ≤ code → code < to → inWindo
 
 -- and of all elements in such a run
 all-inside : (window : Window) (k n from to : ℕ) (f : Forest) → Arranged k n from to f → Inside window from to → AllSeen window f
-all-inside window k n from to empty h all = record { all-found = refl; all-opened = refl; none-tested = refl }
+all-inside window k n from to empty h all = record { all-found = refl; all-opened = refl; none-crossed = refl; none-tested = refl }
 all-inside window k n from to (pixel c f) h all =
     let rest = all-inside window k n (suc c) to f (h .1) (λ code p q. all code (omega arith) q) in
     let one : inWindow window c ≡ true = all c (h .0) (omega (arith, arranged-le k n (suc c) to f (h .1))) in
-    record { all-found = rw one (ap (λ l. c ∷ l) (rest .all-found)); all-opened = rest .all-opened; none-tested = rest .none-tested }
+    record { all-found = rw one (ap (λ l. c ∷ l) (rest .all-found)); all-opened = rest .all-opened; none-crossed = rest .none-crossed; none-tested = rest .none-tested }
 all-inside window k n from to (blockAt v i c es f) h all =
     let end = arranged-le k n (c + 4 ^ i) to f (h .7) in
     let run : Inside window c (c + 4 ^ i) = λ code p q. all code (omega arith) (omega arith) in

@@ -3,7 +3,7 @@ use Prim.Native.Nat.{ℕ, _≤_}
 use native.Mathlib.Omega.{arith}
 use mathlib.Core.Path.{_≡_, refl, ap}
 use mathlib.Core.Logic.{_↔_}
-use mathlib.Core.Bool.{Bool, true, false}
+use mathlib.Core.Bool.{Bool, true, false, not, _&&_}
 use mathlib.Core.List.{List, [], _∷_}
 use lib.ListN.{length}
 use lib.Pow.{pow-pos}
@@ -11,8 +11,8 @@ use Rattle.morton.specs.Code.{xOf, yOf}
 use Rattle.pktree.specs.Lists.{select}
 use Rattle.pktree.specs.Panel.{Panel, HasPixel}
 use Rattle.pktree.specs.Elements.{Forest}
-use Rattle.pktree.specs.Tree.{blocks}
-use Rattle.pktree.specs.Window.{Window, inWindow, Ordered, partOn, found, sharesPixel, openedByWindow}
+use Rattle.pktree.specs.Tree.{BlockOf, blocks}
+use Rattle.pktree.specs.Window.{Window, inWindow, Ordered, partOn, found, sharesPixel, whollyInside, overEdge, openedByWindow, crossedByWindow}
 use Rattle.pktree.proofs.Absurd.{false-unless}
 use Rattle.pktree.proofs.Windows.{in-window-exactly, shares-pixel-exactly}
 
@@ -63,6 +63,11 @@ module _ {window : Window} (none : Ordered window → ⊥) where
   pub none-found : (set : List ℕ) → found window set ≡ []
   none-found set = select-none (inWindow window) (λ code. false-unless _ (none-in code)) set
 
+  shares-none : (b : BlockOf) → sharesPixel window b ≡ false
+  shares-none b = false-unless _ (λ t. let s = shares-pixel-exactly window b .0 t in none-in (s .0) (s .3))
+
   pub none-opened : (f : Forest) → openedByWindow window f ≡ 0
-  none-opened f =
-      ap length (select-none (sharesPixel window) (λ b. false-unless _ (λ t. let s = shares-pixel-exactly window b .0 t in none-in (s .0) (s .3))) (blocks f))
+  none-opened f = ap length (select-none (sharesPixel window) shares-none (blocks f))
+
+  pub none-crossed : (f : Forest) → crossedByWindow window f ≡ 0
+  none-crossed f = ap length (select-none (overEdge window) (λ b. ap (λ (t : Bool). t && not (whollyInside window b)) (shares-none b)) (blocks f))

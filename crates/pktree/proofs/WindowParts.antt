@@ -8,8 +8,8 @@ use mathlib.Core.List.{List, [], _∷_, _++_, append-nil}
 use lib.ListN.{length, length-append}
 use Rattle.pktree.specs.Lists.{select, total}
 use Rattle.pktree.specs.Elements.{Forest, empty, pixel, block, _⧺_, blockAt, size}
-use Rattle.pktree.specs.Tree.{blockOf, blocks, pixels}
-use Rattle.pktree.specs.Window.{Window, inWindow, found, sharesPixel, whollyInside, overEdge, openedByWindow, testedByWindow}
+use Rattle.pktree.specs.Tree.{BlockOf, blockOf, blocks, pixels}
+use Rattle.pktree.specs.Window.{Window, inWindow, found, sharesPixel, whollyInside, overEdge, openedByWindow, crossedByWindow, testedByWindow}
 use Rattle.pktree.proofs.Absurd.{false-unless}
 use Rattle.pktree.proofs.Arranged.{Arranged, LocallyRight, arranged-le}
 use Rattle.pktree.proofs.Forests.{blockCount, length-blocks, pixels-join, blocks-join}
@@ -50,22 +50,43 @@ none-of-both one other (a ∷ l) none = go (one a) none (none-of-both one other 
 pub found-few : (window : Window) (set : List ℕ) → length (found window set) ≤ length set
 found-few window set = select-short (inWindow window) set
 
+-- whichever blocks a walk opens
+blocks-few : (test : BlockOf → Bool) (f : Forest) → length (select test (blocks f)) ≤ blockCount f
+blocks-few test f = omega (arith, select-short test (blocks f), length-blocks f)
+
 pub opened-few : (window : Window) (f : Forest) → openedByWindow window f ≤ blockCount f
-opened-few window f = omega (arith, select-short (sharesPixel window) (blocks f), length-blocks f)
+opened-few window f = blocks-few (sharesPixel window) f
+
+pub crossed-few : (window : Window) (f : Forest) → crossedByWindow window f ≤ blockCount f
+crossed-few window f = blocks-few (overEdge window) f
 
 -- joined elements
 pub found-join : (window : Window) (f g : Forest) → found window (pixels (f ⧺ g)) ≡ found window (pixels f) ++ found window (pixels g)
 found-join window f g = rw (pixels-join f g) (select-join (inWindow window) (pixels f) (pixels g))
 
+selected-join : (test : BlockOf → Bool) (f g : Forest) → length (select test (blocks (f ⧺ g))) ≡ length (select test (blocks f)) + length (select test (blocks g))
+selected-join test f g = rw (blocks-join f g, select-join test (blocks f) (blocks g)) (length-append (select test (blocks f)) (select test (blocks g)))
+
 pub opened-join : (window : Window) (f g : Forest) → openedByWindow window (f ⧺ g) ≡ openedByWindow window f + openedByWindow window g
-opened-join window f g =
-    rw (blocks-join f g, select-join (sharesPixel window) (blocks f) (blocks g))
-    (length-append (select (sharesPixel window) (blocks f)) (select (sharesPixel window) (blocks g)))
+opened-join window f g = selected-join (sharesPixel window) f g
+
+pub crossed-join : (window : Window) (f g : Forest) → crossedByWindow window (f ⧺ g) ≡ crossedByWindow window f + crossedByWindow window g
+crossed-join window f g = selected-join (overEdge window) f g
 
 pub tested-join : (window : Window) (f g : Forest) → testedByWindow window (f ⧺ g) ≡ testedByWindow window f + testedByWindow window g
 tested-join window f g =
     rw (blocks-join f g, select-join (overEdge window) (blocks f) (blocks g))
     (total-join _ (select (overEdge window) (blocks f)) (select (overEdge window) (blocks g)))
+
+-- what count opens in a block: itself if it lies over the window's edge, and what it opens in its elements
+pub crossed-block
+    : (window : Window) (i c : ℕ) (es : Forest)
+    → crossedByWindow window (block i c es empty) ≡ cond (overEdge window (blockOf i c es)) 1 0 + crossedByWindow window es
+crossed-block window i c es = rw (append-nil (blocks es)) (go (overEdge window (blockOf i c es)))
+  where
+    go : (t : Bool) → length (cond t (blockOf i c es ∷ select (overEdge window) (blocks es)) (select (overEdge window) (blocks es))) ≡ cond t 1 0 + crossedByWindow window es
+    go true = omega arith
+    go false = omega arith
 
 -- what is tested in a block: its elements if it lies over the window's edge, and what is tested in these
 pub tested-block
@@ -83,6 +104,12 @@ pub edge-tested
     → sharesPixel window (blockOf i c es) ≡ true → whollyInside window (blockOf i c es) ≡ false
     → testedByWindow window (block i c es empty) ≡ size es + testedByWindow window es
 edge-tested window i c es shares out = rw (tested-block window i c es, shares, out)
+
+pub edge-crossed
+    : (window : Window) (i c : ℕ) (es : Forest)
+    → sharesPixel window (blockOf i c es) ≡ true → whollyInside window (blockOf i c es) ≡ false
+    → crossedByWindow window (block i c es empty) ≡ suc (crossedByWindow window es)
+edge-crossed window i c es shares out = rw (crossed-block window i c es, shares, out) (omega arith)
 
 at-most : (t : Bool) (n : ℕ) → cond t n 0 ≤ n
 at-most true n = omega arith
@@ -125,14 +152,15 @@ nothing-outside window k n from to (blockAt v i c es f) h out =
       rw no (select-join (sharesPixel window) (blocks es) (blocks f) ∙ ap₂ _++_ (inside .1) (rest .1)),
     )
 
--- what is not opened is not tested
-pub tested-unopened : (window : Window) (f : Forest) → openedByWindow window f ≡ 0 → testedByWindow window f ≡ 0
-tested-unopened window f none = rw (none-of-both (sharesPixel window) (λ b. not (whollyInside window b)) (blocks f) none)
+-- what is not opened does not lie over the edge either
+none-over-edge : (window : Window) (f : Forest) → openedByWindow window f ≡ 0 → select (overEdge window) (blocks f) ≡ []
+none-over-edge window f none = none-of-both (sharesPixel window) (λ b. not (whollyInside window b)) (blocks f) none
 
 -- a block that has no pixel in common with the window
 pub record NothingSeen (window : Window) (f : Forest) : Type 0 where
   pub none-found : found window (pixels f) ≡ []
   pub none-opened : openedByWindow window f ≡ 0
+  pub none-crossed : crossedByWindow window f ≡ 0
   pub none-tested : testedByWindow window f ≡ 0
 
 pub block-apart
@@ -141,7 +169,8 @@ block-apart window k i c es right e =
     let shares = shares-pixel-exactly window (blockOf i c es) in
     let inside = nothing-outside window k i c (c + 4 ^ i) es (right .arranged) (λ code p q t. false≢true (sym e ∙ shares .1 (code, p, q, t))) in
     let opened : openedByWindow window (block i c es empty) ≡ 0 = rw (e, append-nil (blocks es)) (ap length (inside .1)) in
-    record { none-found = rw (append-nil (pixels es)) (inside .0); none-opened = opened; none-tested = tested-unopened window (block i c es empty) opened }
+    let none = none-over-edge window (block i c es empty) opened in
+    record { none-found = rw (append-nil (pixels es)) (inside .0); none-opened = opened; none-crossed = ap length none; none-tested = rw none }
 
 -- a block that has one is opened, and its elements are looked at
 pub record OneOpened (window : Window) (f es : Forest) : Type 0 where

@@ -1,5 +1,5 @@
 -- 01 "Calls": which pixels a window has, and which blocks a call opens; 02, P3: the part of a window on the panel; 02, P4: which
--- blocks lie wholly inside a window, and how many elements a walk tests singly.
+-- blocks lie wholly inside a window, and how many elements a walk tests singly; 02, P6: which blocks a count opens.
 use Prim.Native.Nat.{ℕ, zero, suc, _+_, _-_, _^_, _≤_, min}
 use mathlib.Core.Bool.{Bool, true, false, not, _&&_, _||_}
 use mathlib.Core.List.{List}
@@ -60,12 +60,16 @@ overEdge window b = sharesPixel window b && not (whollyInside window b)
 abbrev pub holdsPixel : ℕ → BlockOf → Bool
 holdsPixel code b = leb (b .code) code && ltb code (b .code + 4 ^ b .level)
 
--- 01: the number of blocks that count and list open, and that ask opens
+-- 01: the number of blocks that list opens, and that ask opens
 abbrev pub openedByWindow : Window → Forest → ℕ
 openedByWindow window t = length (select (sharesPixel window) (blocks t))
 
 abbrev pub openedByPixel : ℕ → Forest → ℕ
 openedByPixel code t = length (select (holdsPixel code) (blocks t))
+
+-- 02, P6: and that count opens: a block wholly inside is taken by its number
+abbrev pub crossedByWindow : Window → Forest → ℕ
+crossedByWindow window t = length (select (overEdge window) (blocks t))
 
 -- 02, P4: the number of elements that count and list test singly: those of the opened blocks that are not wholly inside
 abbrev pub testedByWindow : Window → Forest → ℕ

@@ -88,11 +88,11 @@ pub fn change(panel: Panel, length: usize, x: u32, y: u32, marked: bool, set: &m
 }
 
 // What a window finds and opens. What of it is off the panel has no pixel and no block.
-fn seen(panel: Panel, window: Window, set: &Set) -> Answer {
+fn seen(panel: Panel, window: Window, over_edge: bool, set: &Set) -> Answer {
     answered(
         0,
-        window::entries(panel, set, window, 0, 0) as usize,
-        window::entries(panel, set, window, 1, 4) as usize,
+        window::pixels(panel, set, window) as usize,
+        window::blocks_met(panel, set, window, over_edge) as usize,
     )
 }
 
@@ -102,7 +102,7 @@ pub fn ask(panel: Panel, length: usize, x: u32, y: u32, set: &Set) -> Answer {
     if refusal != 0 {
         return answered(refusal, 0, 0);
     }
-    seen(panel, window::around(x, y), set)
+    seen(panel, window::around(x, y), false, set)
 }
 
 // 02, P5: refused as ask is, then without a budget.
@@ -117,17 +117,27 @@ pub fn nearest(panel: Panel, length: usize, x: u32, y: u32, budget: u32, set: &S
     search::run(panel, set, code_of(x, y), budget)
 }
 
-pub fn count(panel: Panel, length: usize, window: Window, set: &Set) -> Answer {
+fn of_window(panel: Panel, length: usize, window: Window, over_edge: bool, set: &Set) -> Answer {
     if length < panel.words {
         return answered(3, 0, 0);
     }
     if (window.x1 < window.x0) | (window.y1 < window.y0) {
         return answered(8, 0, 0);
     }
-    seen(panel, window, set)
+    seen(panel, window, over_edge, set)
 }
 
-// The answer of a call that writes as many words or bytes as its first number says: list is a count with such an output.
+// 02, P6: a count does not open a block wholly inside the window.
+pub fn count(panel: Panel, length: usize, window: Window, set: &Set) -> Answer {
+    of_window(panel, length, window, true, set)
+}
+
+// A list does; with an output that is long enough.
+pub fn list(panel: Panel, length: usize, window: Window, set: &Set) -> Answer {
+    of_window(panel, length, window, false, set)
+}
+
+// The answer of a call that writes as many words or bytes as its first number says.
 pub fn with_output(answer: Answer, room: usize) -> Answer {
     if room < answer.first {
         return answered(9, answer.first, 0);

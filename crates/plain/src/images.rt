@@ -3,6 +3,7 @@ use crate::blocks;
 use crate::blocks::Panel;
 use crate::blocks::Set;
 use crate::window;
+use crate::window::Sought;
 use crate::window::Window;
 
 // What every image here fits into; its length goes beside it.
@@ -29,7 +30,12 @@ pub fn number_of(panel: Panel, set: &Set, high: u32) -> u16 {
         x1: 15,
         y1: 15,
     };
-    window::entries(panel, set, whole, 0, high)
+    let sought = Sought {
+        low: 0,
+        high,
+        over_edge: false,
+    };
+    window::entries(panel, set, whole, sought)
 }
 
 pub fn image_length(panel: Panel, set: &Set) -> usize {

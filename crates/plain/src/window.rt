@@ -30,24 +30,61 @@ fn shares(window: Window, level: u32, code: u32) -> bool {
     (x <= window.x1) & (window.x0 <= (x | reach)) & (y <= window.y1) & (window.y0 <= (y | reach))
 }
 
-// An entry of these levels that shares a pixel with the window.
-fn counts(panel: Panel, set: &Set, window: Window, low: u32, high: u32, place: u16) -> bool {
-    let level = blocks::level_at(place);
-    if (low <= level) & (level <= high) & shares(window, level, blocks::code_at(place)) {
-        return blocks::is_entry(panel, set, place);
-    }
-    false
+// Whether all of its pixels lie in the window.
+fn lies_inside(window: Window, level: u32, code: u32) -> bool {
+    let reach = codes::side_of(level) - 1;
+    let x = codes::x_of(code);
+    let y = codes::x_of(code >> 1);
+    (window.x0 <= x) & ((x | reach) <= window.x1) & (window.y0 <= y) & ((y | reach) <= window.y1)
 }
 
-// Of level 0 alone they are the marked pixels in the window, of levels 1 to 4 the instantiated blocks that share a pixel with it.
-pub fn entries(panel: Panel, set: &Set, window: Window, low: u32, high: u32) -> u16 {
+// Which entries are counted: those of these levels that share a pixel with the window; over its edge those alone that have one outside it too.
+pub struct Sought {
+    pub low: u32,
+    pub high: u32,
+    pub over_edge: bool,
+}
+
+fn counts(panel: Panel, set: &Set, window: Window, sought: Sought, place: u16) -> bool {
+    let level = blocks::level_at(place);
+    let code = blocks::code_at(place);
+    if (level < sought.low) | (sought.high < level) | !shares(window, level, code) {
+        return false;
+    }
+    if sought.over_edge & lies_inside(window, level, code) {
+        return false;
+    }
+    blocks::is_entry(panel, set, place)
+}
+
+pub fn entries(panel: Panel, set: &Set, window: Window, sought: Sought) -> u16 {
     let mut number = 0;
     for place in 0..panel.places {
-        if counts(panel, set, window, low, high, place) {
+        if counts(panel, set, window, sought, place) {
             number += 1;
         }
     }
     number
+}
+
+// The marked pixels in the window.
+pub fn pixels(panel: Panel, set: &Set, window: Window) -> u16 {
+    let sought = Sought {
+        low: 0,
+        high: 0,
+        over_edge: false,
+    };
+    entries(panel, set, window, sought)
+}
+
+// The instantiated blocks that share a pixel with the window, or 02, P6: those of them that do not lie wholly inside it.
+pub fn blocks_met(panel: Panel, set: &Set, window: Window, over_edge: bool) -> u16 {
+    let sought = Sought {
+        low: 1,
+        high: 4,
+        over_edge,
+    };
+    entries(panel, set, window, sought)
 }
 
 // What a list of all 256 codes may write to; every word is 7 before.

@@ -4,6 +4,7 @@ pub mod Holding
 pub mod Exactly
 pub mod AnyWords
 pub mod OnSound
+pub mod WholePanel
 pub mod Nearest
 pub mod SpoiledRoot
 pub mod SetTests

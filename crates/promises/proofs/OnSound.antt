@@ -11,14 +11,14 @@ use Rattle.pktree.specs.Tree.{tree}
 use Rattle.pktree.specs.Window.{Window, Ordered, found, openedByPixel}
 use Rattle.pktree.specs.Image.{image}
 use Rattle.pktree.proofs.Absurd.{zero-is-not-one}
-use Rattle.pktree.proofs.Parts.{part-begins, none-found, none-opened}
+use Rattle.pktree.proofs.Parts.{part-begins, none-found, none-opened, none-crossed}
 use Rattle.measures.specs.Sizes.{panelOf, sizesOf, UsableStore}
 use Rattle.store.specs.Sound.{Holds}
 use Rattle.promises.specs.Effect.{HasPixelOn, effect, Returns, partIn, passed, stopped}
 use Rattle.promises.specs.Answer.{Answer, accepted, refused, yesNo}
 use Rattle.promises.specs.Walk.{Spoiled}
 use Rattle.promises.specs.Output.{WritesOrShort}
-use Rattle.promises.specs.Calls.{MarkMeets, ClearMeets, AskMeets, NearestMeets, windowGiven, foundAndOpened, Counts, CountMeets, Lists, ListMeets, SaveMeets}
+use Rattle.promises.specs.Calls.{MarkMeets, ClearMeets, AskMeets, NearestMeets, windowGiven, foundAndOpened, foundAndCrossed, Counts, CountMeets, Lists, ListMeets, SaveMeets}
 use Rattle.promises.proofs.Answers.{refusal-of, first-of, second-of}
 use Rattle.promises.proofs.Holding.{Holding, now-holding}
 use Rattle.promises.proofs.Ladder.{where-holds, where-fails}
@@ -42,8 +42,12 @@ module _ {before set : List ℕ} (holds : Holds before set) {after : List ℕ} {
     clear-removes m = now-holding (where-holds (where-holds (where-holds meets (holds .sound .usable)) on .sound set holds) m)
 
 -- where the part is empty, 0 and 0 are its numbers too
-none-there : (words : List ℕ) {part : Window} (set : List ℕ) → (Ordered part → ⊥) → accepted 0 0 ≡ foundAndOpened words part set
-none-there words set none = sym (ap₂ accepted (ap length (none-found none set)) (none-opened none (tree (panelOf (sizesOf words)) (member set))))
+module _ (words : List ℕ) {part : Window} (set : List ℕ) (none : Ordered part → ⊥) where
+  none-listed : accepted 0 0 ≡ foundAndOpened words part set
+  none-listed = sym (ap₂ accepted (ap length (none-found none set)) (none-opened none (tree (panelOf (sizesOf words)) (member set))))
+
+  none-counted : accepted 0 0 ≡ foundAndCrossed words part set
+  none-counted = sym (ap₂ accepted (ap length (none-found none set)) (none-crossed none (tree (panelOf (sizesOf words)) (member set))))
 
 module _ {words set : List ℕ} (holds : Holds words set) {a : Answer} where
   pub ask-answers : {x y : ℕ} → AskMeets words x y a → HasPixelOn words x y
@@ -52,11 +56,11 @@ module _ {words set : List ℕ} (holds : Holds words set) {a : Answer} where
 
   -- 02, P3: those of the part on the panel, also where it is empty
   module _ {x0 y0 x1 y1 : ℕ} (ordered : Ordered (windowGiven x0 y0 x1 y1)) where
-    pub count-answers : CountMeets words x0 y0 x1 y1 a → a ≡ foundAndOpened words (partIn words (windowGiven x0 y0 x1 y1)) set
+    pub count-answers : CountMeets words x0 y0 x1 y1 a → a ≡ foundAndCrossed words (partIn words (windowGiven x0 y0 x1 y1)) set
     count-answers m = go (where-holds (where-holds m (holds .sound .usable)) ordered)
       where
-        go : Counts words (windowGiven x0 y0 x1 y1) (effect a words words) → a ≡ foundAndOpened words (partIn words (windowGiven x0 y0 x1 y1)) set
-        go (stopped none r) = r .is ∙ none-there words set none
+        go : Counts words (windowGiven x0 y0 x1 y1) (effect a words words) → a ≡ foundAndCrossed words (partIn words (windowGiven x0 y0 x1 y1)) set
+        go (stopped none r) = r .is ∙ none-counted words set none
         go (passed some w) = w .sound set holds .is
 
     module _ {before after : List ℕ} (meets : ListMeets words x0 y0 x1 y1 before after a) where
@@ -66,7 +70,7 @@ module _ {words set : List ℕ} (holds : Holds words set) {a : Answer} where
           go : Lists words (windowGiven x0 y0 x1 y1) (effect a before after)
               → WritesOrShort (foundAndOpened words (partIn words (windowGiven x0 y0 x1 y1)) set) (found (partIn words (windowGiven x0 y0 x1 y1)) set) (effect a before after)
           go (stopped none r) = let e = none-found none set in
-              passed (omega (arith, ap length e)) (record { is = r .is ∙ none-there words set none; wrote = r .same ∙ rw e })
+              passed (omega (arith, ap length e)) (record { is = r .is ∙ none-listed words set none; wrote = r .same ∙ rw e })
           go (passed some w) = w .sound set holds
 
       pub list-writes : length (found (partIn words (windowGiven x0 y0 x1 y1)) set) ≤ length before

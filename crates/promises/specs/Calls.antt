@@ -10,7 +10,7 @@ use Rattle.pktree.specs.Lists.{Every}
 use Rattle.pktree.specs.Panel.{OnPanel}
 use Rattle.pktree.specs.PixelSet.{member, Ascending, added, removed}
 use Rattle.pktree.specs.Tree.{tree}
-use Rattle.pktree.specs.Window.{openedByPixel, Window, found, openedByWindow}
+use Rattle.pktree.specs.Window.{openedByPixel, Window, found, openedByWindow, crossedByWindow}
 use Rattle.pktree.specs.Image.{image}
 use Rattle.searching.specs.NearestPromises.{nearestOn}
 use Rattle.measures.specs.declared.sizes.Sizes.{Sizes}
@@ -108,19 +108,23 @@ NearestMeets words x y budget given = OfPixel words x y (FindsNearest words (cod
 abbrev pub windowGiven : ℕ → ℕ → ℕ → ℕ → Window
 windowGiven x0 y0 x1 y1 = record { x0 = x0; y0 = y0; x1 = x1; y1 = y1 }
 
--- on a sound store: the marked pixels in the window, and the instantiated blocks that share a pixel with it
-abbrev pub foundAndOpened : List ℕ → Window → List ℕ → Answer
-foundAndOpened words window set = accepted (length (found window set)) (openedByWindow window (tree (panelOf (sizesOf words)) (member set)))
+-- on a sound store: the marked pixels in the window, and 02, P6: the instantiated blocks that share a pixel with it without lying wholly inside
+abbrev pub foundAndCrossed : List ℕ → Window → List ℕ → Answer
+foundAndCrossed words window set = accepted (length (found window set)) (crossedByWindow window (tree (panelOf (sizesOf words)) (member set)))
 
 -- count (store, x0, y0, x1, y1): never more than N pixels found, nor more than S blocks opened; 02, P3: of the part of the window on the panel
 abbrev pub CountsIn : List ℕ → Window → Effect → Type 0
-CountsIn words part = Walks words (Accepts (sizesOf words .most) (slotsIn words)) Unchanged (λ set. Returns (foundAndOpened words part set))
+CountsIn words part = Walks words (Accepts (sizesOf words .most) (slotsIn words)) Unchanged (λ set. Returns (foundAndCrossed words part set))
 
 abbrev pub Counts : List ℕ → Window → Effect → Type 0
 Counts words window = OfPart words window (CountsIn words (partIn words window))
 
 abbrev pub CountMeets : List ℕ → ℕ → ℕ → ℕ → ℕ → Answer → Type 0
 CountMeets words x0 y0 x1 y1 given = OfWindow words (windowGiven x0 y0 x1 y1) (Counts words (windowGiven x0 y0 x1 y1)) (effect given words words)
+
+-- of a list: the marked pixels in the window, and all instantiated blocks that share a pixel with it
+abbrev pub foundAndOpened : List ℕ → Window → List ℕ → Answer
+foundAndOpened words window set = accepted (length (found window set)) (openedByWindow window (tree (panelOf (sizesOf words)) (member set)))
 
 -- list: as count, with each found code written once to the first words of the output; 02, P1: in ascending order, as a set is, so that every word is fixed
 abbrev pub ListsIn : List ℕ → Window → Effect → Type 0

@@ -6,10 +6,11 @@ use mathlib.Core.List.{[], _++_}
 use lib.ListN.{length, length-append}
 use Rattle.pktree.specs.Elements.{Forest, empty, _⧺_}
 use Rattle.pktree.specs.Window.{Window}
-use Rattle.pktree.proofs.Forests.{size-join, pixels-join, blockCount-join}
-use Rattle.pktree.proofs.WindowParts.{found-join, opened-join, tested-join}
+use Rattle.pktree.proofs.Forests.{size-join}
+use Rattle.pktree.proofs.WindowParts.{found-join, tested-join}
 use Rattle.walks.proofs.Walks.{Walk}
-use Rattle.query.specs.Counting.{Findings, ofElements, ofAll, Room, Added, Counts}
+use Rattle.query.specs.Counting.{Findings, ofElements, Room, Added, Counts}
+use Rattle.query.proofs.Opens.{Opens}
 
 pub record Additive (findings : Findings) : Type 0 where
   pub no-codes : findings .codes empty ≡ []
@@ -19,26 +20,23 @@ pub record Additive (findings : Findings) : Type 0 where
   pub blocks-join : (f g : Forest) → findings .blocks (f ⧺ g) ≡ findings .blocks f + findings .blocks g
   pub tests-join : (f g : Forest) → findings .tests (f ⧺ g) ≡ findings .tests f + findings .tests g
 
-pub elements-additive : (window : Window) → Additive (ofElements window)
-elements-additive window =
+pub elements-additive : {opens : Window → Forest → ℕ} {window : Window} → Opens opens window → Additive (ofElements opens window)
+elements-additive {window = window} o =
     record {
       no-codes = refl;
-      no-blocks = refl;
+      no-blocks = o .none;
       no-tests = refl;
       codes-join = found-join window;
-      blocks-join = opened-join window;
+      blocks-join = o .join;
       tests-join = λ f g. omega (arith, size-join f g, tested-join window f g);
     }
 
-pub all-additive : Additive ofAll
-all-additive = record { no-codes = refl; no-blocks = refl; no-tests = refl; codes-join = pixels-join; blocks-join = blockCount-join; tests-join = λ f g. refl }
-
 -- room for both is room for the first, and then for the second
-module _ {findings : Findings} {slots : ℕ} {s : ℕ × ℕ × ℕ} (add : Additive findings) (f g : Forest) (room : Room findings slots s (f ⧺ g)) where
+module _ {findings : Findings} {most slots : ℕ} {s : ℕ × ℕ × ℕ} (add : Additive findings) (f g : Forest) (room : Room findings most slots s (f ⧺ g)) where
   both-found : length (findings .codes (f ⧺ g)) ≡ length (findings .codes f) + length (findings .codes g)
   both-found = ap length (add .codes-join f g) ∙ length-append (findings .codes f) (findings .codes g)
 
-  pub room-first : Room findings slots s f
+  pub room-first : Room findings most slots s f
   room-first =
       record {
         few-found = omega (arith, both-found, room .few-found);
@@ -47,7 +45,7 @@ module _ {findings : Findings} {slots : ℕ} {s : ℕ × ℕ × ℕ} (add : Addi
       }
 
   module _ {t : ℕ × ℕ × ℕ} (first : Added findings s f t) where
-    pub room-second : Room findings slots t g
+    pub room-second : Room findings most slots t g
     room-second =
         record {
           few-found = omega (arith, both-found, room .few-found, first .found-is);
@@ -63,7 +61,7 @@ module _ {findings : Findings} {slots : ℕ} {s : ℕ × ℕ × ℕ} (add : Addi
           tested-is = omega (arith, add .tests-join f g, first .tested-is, second .tested-is);
         }
 
-pub count-walk : {findings : Findings} {slots : ℕ} → Additive findings → Walk (Counts findings slots)
+pub count-walk : {findings : Findings} {most slots : ℕ} → Additive findings → Walk (Counts findings most slots)
 count-walk add =
     record {
       none = λ s. record {

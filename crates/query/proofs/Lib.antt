@@ -1,10 +1,8 @@
-pub mod WindowTests
 pub mod SeenParts
+pub mod Opens
 pub mod Openings
 pub mod Findings
-pub mod InsideCounts
 pub mod Counts
-pub mod PartCorners
 pub mod WholeTree
 pub mod RootCount
 pub mod Asks

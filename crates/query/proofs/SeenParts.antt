@@ -1,22 +1,22 @@
 -- What a window sees of one element, and of the block around its elements, by the tests that the code makes.
-use Prim.Native.Nat.{ℕ, _+_}
+use Prim.Native.Nat.{ℕ, suc, _+_}
 use mathlib.Core.Path.{_≡_, refl, sym, _∙_}
 use mathlib.Core.Bool.{Bool, true, false}
 use mathlib.Core.List.{List, [], _∷_}
 use Rattle.pktree.specs.Elements.{Forest, empty, pixel, block, unlabelled, size}
 use Rattle.pktree.specs.Tree.{blockOf, pixels}
-use Rattle.pktree.specs.Window.{Window, inWindow, Ordered, found, sharesPixel, whollyInside, testedByWindow}
+use Rattle.pktree.specs.Window.{Window, inWindow, Ordered, found, sharesPixel, whollyInside, crossedByWindow, testedByWindow}
 use Rattle.pktree.proofs.Unlabelled.{local-unlabelled}
-use Rattle.pktree.proofs.WindowParts.{NothingSeen, OneOpened, block-apart, block-opened, edge-tested}
+use Rattle.pktree.proofs.WindowParts.{NothingSeen, OneOpened, block-apart, block-opened, edge-crossed, edge-tested}
 use Rattle.pktree.proofs.Insides.{AllSeen, block-inside}
 use Rattle.store.specs.Placed.{Placed}
 use Rattle.store.proofs.BlockView.{BlockView}
-use Rattle.query.specs.declared.window.Corners.{Corners}
-use Rattle.query.specs.Corners.{windowBetween, OnGrid, SharingTested, InsideTested}
+use Rattle.windows.specs.declared.Corners.{Corners}
+use Rattle.windows.specs.Corners.{windowBetween, OnGrid, SharingTested, InsideTested}
 
 -- a pixel
 pub pixel-outside : (window : Window) (c : ℕ) → inWindow window c ≡ false → NothingSeen window (pixel c empty)
-pixel-outside window c e = record { none-found = rw e; none-opened = refl; none-tested = refl }
+pixel-outside window c e = record { none-found = rw e; none-opened = refl; none-crossed = refl; none-tested = refl }
 
 pub pixel-inside : (window : Window) (c : ℕ) → inWindow window c ≡ true → found window (pixels {A = Unit {0}} (pixel c empty)) ≡ c ∷ []
 pixel-inside window c e = rw e
@@ -24,6 +24,7 @@ pixel-inside window c e = rw e
 -- a block over the window's edge is opened, and its elements are tested
 pub record OverEdge (window : Window) (f es : Forest) : Type 0 where
   pub opened : OneOpened window f es
+  pub crossed : crossedByWindow window f ≡ suc (crossedByWindow window es)
   pub singly : testedByWindow window f ≡ size es + testedByWindow window es
 
 -- a block as the walks see it
@@ -48,5 +49,6 @@ module _ {k width slots : ℕ} {words : List ℕ} {slot level code : ℕ} {es : 
   over-edge tested e shares =
       record {
         opened = block-opened (windowBetween corners) level code (unlabelled es) shares;
+        crossed = edge-crossed (windowBetween corners) level code (unlabelled es) shares (inside-as-tested tested ∙ e);
         singly = edge-tested (windowBetween corners) level code (unlabelled es) shares (inside-as-tested tested ∙ e);
       }

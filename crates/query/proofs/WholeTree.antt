@@ -8,12 +8,12 @@ use lib.ListN.{length}
 use Rattle.morton.specs.Code.{gatherBits, xOf, yOf}
 use Rattle.pktree.specs.Panel.{Panel, HasPixel, Block}
 use Rattle.pktree.specs.PixelSet.{member}
-use Rattle.pktree.specs.Elements.{empty, block, unlabelled}
+use Rattle.pktree.specs.Elements.{Forest, empty, block, unlabelled}
 use Rattle.pktree.specs.Tree.{tree, pixels, blockOf}
 use Rattle.pktree.specs.Window.{Window, Ordered, found, sharesPixel}
 use Rattle.pktree.proofs.Forests.{blockCount}
 use Rattle.pktree.proofs.Windows.{corners-meet-exactly}
-use Rattle.pktree.proofs.WindowParts.{found-few, opened-few, tested-few}
+use Rattle.pktree.proofs.WindowParts.{found-few, tested-few}
 use Rattle.pktree.proofs.Insides.{largest, largest-valid}
 use Rattle.pktree.proofs.Parts.{part-begins}
 use Rattle.pktree.proofs.Unlabelled.{pixels-unlabelled, blockCount-unlabelled}
@@ -23,9 +23,10 @@ use Rattle.store.specs.Placed.{Placed}
 use Rattle.store.specs.Sound.{Holds}
 use Rattle.store.proofs.SoundView.{sound-view}
 use Rattle.store.proofs.BlockView.{BlockView, root-view}
-use Rattle.query.specs.declared.window.Corners.{Corners}
-use Rattle.query.specs.Corners.{windowBetween, PartBetween}
+use Rattle.windows.specs.declared.Corners.{Corners}
+use Rattle.windows.specs.Corners.{windowBetween, PartBetween}
 use Rattle.query.specs.Counting.{ofBlocks, Room}
+use Rattle.query.proofs.Opens.{Opens}
 
 pub record WholeTree (words : List ℕ) (window : Window) (set : List ℕ) (es : Placed) : Type 0 where
   pub view : BlockView (sizesOf words .k) (slotWidth (sizesOf words .k)) (slotCount (sizesOf words .k) (sizesOf words .most)) words 0 (sizesOf words .order) 0 es
@@ -33,7 +34,8 @@ pub record WholeTree (words : List ℕ) (window : Window) (set : List ℕ) (es :
   pub shares : sharesPixel window (blockOf (sizesOf words .order) 0 (unlabelled es)) ≡ true
   pub all-found : found window (pixels (tree (panelOf (sizesOf words)) (member set))) ≡ found window set
   pub few : length (found window set) ≤ sizesOf words .most
-  pub room : LayoutWithin (layoutOf (sizesOf words)) → Room (ofBlocks window) (slotCount (sizesOf words .k) (sizesOf words .most)) (0, 0, 0) (tree (panelOf (sizesOf words)) (member set))
+  pub room : {opens : Window → Forest → ℕ} → Opens opens window → LayoutWithin (layoutOf (sizesOf words))
+      → Room (ofBlocks opens window) (sizesOf words .most) (slotCount (sizesOf words .k) (sizesOf words .most)) (0, 0, 0) (tree (panelOf (sizesOf words)) (member set))
 
 -- the root's lowest corner is the panel's
 first-corner : (xOf 0 ≡ 0) × (yOf 0 ≡ 0)
@@ -72,9 +74,9 @@ whole-tree words {corners = corners} set holds between =
             (omega (arith, first-corner, on .0, on .1));
         all-found = ap (found part) same;
         few = omega (arith, found-few part set, ap length same, many);
-        room = λ within. record {
-          few-found = omega (arith, found-few part (pixels (tree panel (member set))), many, holds .sound .usable .valid .most-to);
-          few-opened = omega (arith, opened-few part (tree panel (member set)), few);
+        room = λ o within. record {
+          few-found = omega (arith, found-few part (pixels (tree panel (member set))), many);
+          few-opened = omega (arith, o .few (tree panel (member set)), few);
           few-tested = omega (arith, tested-few part (tree panel (member set)), few, many, holds .sound .usable .valid .most-to, within .slots-to);
         };
       },

@@ -1,34 +1,34 @@
 ghost use mathlib.Core.Path.{_≡_};
-ghost use Rattle.pktree.specs.Window.{Ordered};
 ghost use Rattle.measures.specs.Layout.{LayoutFits};
 ghost use Rattle.measures.specs.Sizes.{UsableStore, sizesOf, panelOf};
 ghost use Rattle.promises.specs.Effect.{effect};
 ghost use Rattle.promises.specs.Calls as calls;
 ghost use Rattle.answers.specs.Answer.{countAnswer};
-ghost use Rattle.query.specs.Corners.{windowOf, windowBetween, PartCorners};
-ghost use Rattle.query.specs.Counting.{PixelCounted, InsideCounted, BlockCounted, RootCounted};
+ghost use Rattle.windows.specs.Corners.{windowOf, windowBetween, PartCorners};
+ghost use Rattle.query.specs.Counting.{CanQuery, PixelCounted, NumberTaken, BlockByNumbers, RootByNumbers};
 use crate::walk::RangeQuery;
 use crate::walk::Sum;
 use crate::walk::open_next;
 use crate::walk::within;
-use crate::window::Corners;
-use crate::window::Part;
-use crate::window::Window;
-use crate::window::has_pixel;
-use crate::window::lies_inside;
-use crate::window::meets;
-use crate::window::part_on;
 use answers::Counting;
-use measures::sizes::Layout;
 use measures::sizes::Sizes;
 use measures::sizes::layout_of;
 use measures::slots::LEVEL_ABOVE_ROOT;
 use measures::slots::MORE_THAN_SLOTS;
+use measures::slots::NUMBER;
 use std::num::wrapping_add_u32;
 use store::elements::Element;
 use store::elements::element_at;
 use store::opening::Opening;
+use walks::enter;
 use walks::part_of;
+use windows::Corners;
+use windows::Part;
+use windows::Window;
+use windows::has_pixel;
+use windows::lies_inside;
+use windows::meets;
+use windows::part_on;
 
 // More pixels than a word counts are met on damaged words only.
 fn count_pixel(corners: Corners, code: u32, found: u32) -> u32
@@ -40,10 +40,10 @@ fn count_pixel(corners: Corners, code: u32, found: u32) -> u32
     found
 }
 
-// A block wholly inside the window, an element of a block of level `above`, before which `blocks` were opened: nothing in it is tested, since all of it is found.
-fn count_inside(
+// 02, P6: a block wholly inside the window is not opened: its slot says how many pixels it has. Past 01's N they are no register's.
+fn take_number(
     store: &[u32],
-    layout: Layout,
+    range: RangeQuery,
     above: u32,
     slot: u32,
     level: u32,
@@ -51,23 +51,23 @@ fn count_inside(
     blocks: u32,
     found: &mut u32,
 ) -> u32
-    requires { ⌜ LayoutFits layout (now store) ⌝ }
-    ensures { λ r. ⌜ InsideCounted layout (now (store .entry)) above slot level code (now (found .entry)) blocks (now (found .exit)) r ⌝ }
+    requires { ⌜ LayoutFits (range .layout) (now store) ⌝ }
+    ensures { λ r. ⌜ NumberTaken range (now (store .entry)) above slot level code (now (found .entry)) blocks (now (found .exit)) r ⌝ }
 {
-    let Opening::Elements(count) = open_next(store, layout, above, slot, level, code, blocks) else {
+    let layout = range.layout;
+    let Opening::Elements(_) = enter(store, layout, above, slot, level, code) else {
         return MORE_THAN_SLOTS;
     };
     let part = part_of(store, layout, slot);
-    let mut opened = blocks + 1;
-    for i in 0..count {
-        match element_at(part, i) {
-            Element::Pixel(_) => *found = wrapping_add_u32(*found, 1),
-            Element::Block(s, l, c) => {
-                opened = count_inside(store, layout, level, s, l, c, opened, found);
-            }
-        }
+    let number = part[NUMBER];
+    if range.most < number {
+        return MORE_THAN_SLOTS;
     }
-    opened
+    if range.most - number < *found {
+        return MORE_THAN_SLOTS;
+    }
+    *found += number;
+    blocks
 }
 
 // A block that shares a pixel with the window. Its corners are compared with the window's once, so that only in a block over the edge each element is tested.
@@ -82,13 +82,13 @@ fn count_block(
     found: &mut u32,
     tested: &mut u32,
 ) -> u32
-    requires { ⌜ LayoutFits (range .layout) (now store) × Ordered (windowBetween (range .corners)) ⌝ }
-    ensures { λ r. ⌜ BlockCounted range (now (store .entry)) above slot level code (now (found .entry), blocks, now (tested .entry)) (now (found .exit), r, now (tested .exit)) ⌝ }
+    requires { ⌜ CanQuery range (now store) ⌝ }
+    ensures { λ r. ⌜ BlockByNumbers range (now (store .entry)) above slot level code (now (found .entry), blocks, now (tested .entry)) (now (found .exit), r, now (tested .exit)) ⌝ }
 {
     let layout = range.layout;
     let corners = range.corners;
     if lies_inside(corners, level, code) {
-        return count_inside(store, layout, above, slot, level, code, blocks, found);
+        return take_number(store, range, above, slot, level, code, blocks, found);
     }
     let Opening::Elements(count) = open_next(store, layout, above, slot, level, code, blocks) else {
         return MORE_THAN_SLOTS;
@@ -110,8 +110,8 @@ fn count_block(
 }
 
 fn count_root(store: &[u32], range: RangeQuery, order: u32) -> Sum
-    requires { ⌜ LayoutFits (range .layout) (now store) × Ordered (windowBetween (range .corners)) ⌝ }
-    ensures { λ r. ⌜ RootCounted range (now (store .entry)) order r ⌝ }
+    requires { ⌜ CanQuery range (now store) ⌝ }
+    ensures { λ r. ⌜ RootByNumbers range (now (store .entry)) order r ⌝ }
 {
     let mut found = 0;
     let mut tested = 0;
@@ -139,8 +139,12 @@ pub fn count_part(store: &[u32], sizes: Sizes, corners: Corners) -> Counting
     ensures { λ r. ⌜ calls.CountsIn (now (store .entry)) (windowBetween corners) (effect (countAnswer r) (now (store .entry)) (now (store .entry))) ⌝ }
 {
     let layout = layout_of(sizes);
-    let range = RangeQuery { layout, corners };
-    within(sizes.most, layout, count_root(store, range, sizes.order))
+    let range = RangeQuery {
+        layout,
+        corners,
+        most: sizes.most,
+    };
+    within(range, count_root(store, range, sizes.order))
 }
 
 // 01's count of the window's part on the panel, where refusal 3 does not apply.

@@ -3,4 +3,3 @@
 pub mod ask;
 pub mod count;
 pub mod walk;
-pub mod window;

@@ -2,18 +2,19 @@
 ghost use Rattle.measures.specs.Layout.{LayoutFits};
 ghost use Rattle.query.specs.Opened.{OpenedNext};
 ghost use Rattle.query.specs.Counting.{SumWithin};
-use crate::window::Corners;
 use answers::Counting;
 use answers::Refusal;
 use measures::sizes::Layout;
 use measures::slots::wide;
 use store::opening::Opening;
 use walks::enter;
+use windows::Corners;
 
-// What a window walk is given: where the slots lie, and the window.
+// What a window walk is given: where the slots lie, the window, and the most pixels (01's N).
 pub struct RangeQuery {
     pub layout: Layout,
     pub corners: Corners,
+    pub most: u32,
 }
 
 // What a walk comes to: the pixels found, the blocks opened, and the elements tested singly (02, P4).
@@ -43,12 +44,13 @@ pub fn open_next(
 }
 
 // Never more pixels than 01's N, nor more blocks than there are slots, but on damaged words.
-pub fn within(most: u32, layout: Layout, sum: Sum) -> Counting
-    ensures { λ r. ⌜ SumWithin most layout sum r ⌝ }
+pub fn within(range: RangeQuery, sum: Sum) -> Counting
+    ensures { λ r. ⌜ SumWithin range sum r ⌝ }
 {
-    if most < sum.found {
+    if range.most < sum.found {
         return Counting::Refused(Refusal::StoreDamaged);
     }
+    let layout = range.layout;
     if layout.slots < wide(sum.opened) {
         return Counting::Refused(Refusal::StoreDamaged);
     }

@@ -22,8 +22,8 @@ use measures::sizes::store_end;
 use measures::sizes::within_limits;
 use measures::sizes::write_sizes;
 use nearest::answer::find_nearest;
-use query::window::Window;
 use soundness::is_sound;
+use windows::Window;
 
 // 01: an empty, sound register of order m, with this k, for at most so many pixels (01's N).
 pub fn make(store: &mut [u32], m: u32, k: u32, most: u32) -> Outcome

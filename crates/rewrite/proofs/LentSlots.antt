@@ -23,9 +23,9 @@ module _ {layout : Layout} {words : List ℕ} {slot at : ℕ} (part : List ℕ) 
   back : SlotWritten (layout .width) slot words part (putMid at (at + layout .width - at) words part)
   back = slot-given-back (layout .width) slot at words part (o .is) (slot-within layout slot words fits below) long
 
-  pub headed-back : (level code count : ℕ) → part ≡ withHeader (take (at + layout .width - at) (drop at words)) level code count
-      → SlotWritten (layout .width) slot words (withHeader (slotPart (layout .width) words slot) level code count) (putMid at (at + layout .width - at) words part)
-  headed-back level code count e = record { self = rw (back .self, ← lent) e; only = back .only }
+  pub headed-back : (level code count number : ℕ) → part ≡ withHeader (take (at + layout .width - at) (drop at words)) level code count number
+      → SlotWritten (layout .width) slot words (withHeader (slotPart (layout .width) words slot) level code count number) (putMid at (at + layout .width - at) words part)
+  headed-back level code count number e = record { self = rw (back .self, ← lent) e; only = back .only }
 
   pub laid-back : (source : List ℕ) (n : ℕ) → part ≡ paste (take (at + layout .width - at) (drop at words)) slotHead source n
       → SlotWritten (layout .width) slot words (paste (slotPart (layout .width) words slot) slotHead source n) (putMid at (at + layout .width - at) words part)

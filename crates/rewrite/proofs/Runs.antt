@@ -2,7 +2,7 @@
 use Prim.Native.Nat.{ℕ, suc, _+_, _-_, _*_, _≤_, _<_}
 use native.Mathlib.Numerals.{add-one}
 use native.Mathlib.Omega.{arith}
-use mathlib.Core.Path.{_≡_, _∙_}
+use mathlib.Core.Path.{_≡_, ap, sym, _∙_}
 use mathlib.Core.List.{List, [], _∷_, _++_, append-assoc}
 use lib.ListN.{length, take, drop, set, length-drop, length-set}
 use lib.Seq.{paste, length-paste, take-paste, drop-drop, take-take, take-all, take-suc-set, length-take-le}
@@ -11,6 +11,8 @@ use Rattle.measures.specs.Layout.{LayoutFits, mostElementWords}
 use Rattle.measures.specs.Slot.{slotPart, countWord, elementIndex, slotHead}
 use Rattle.store.specs.Element.{blockTag}
 use Rattle.store.specs.Splice.{elementsIn}
+use Rattle.store.specs.Numbers.{numberOfElements}
+use Rattle.store.proofs.ElementNumbers.{number-of-front}
 use Rattle.store.proofs.Splices.{take-paste-front}
 use Rattle.measures.proofs.SlotWrites.{SlotWritten, drop-take}
 use Rattle.measures.proofs.Usable.{slot-long}
@@ -56,6 +58,17 @@ run-pasted part target at first size run c =
     let h : runWords (elementsIn part) first size ≡ take (2 * size) (drop (elementIndex first) part) = run-in-slot part first size (run .within) in
     let there : 2 * size ≤ length part - (elementIndex first) = omega (arith, run .laid, run .within) in
     rw (c, h, take-take (2 * size) (length part - (elementIndex first)) (drop (elementIndex first) part) there, take-take (2 * size) (2 * size) (drop (elementIndex first) part) (omega arith))
+
+-- what the words from where the run begins stand for
+pub run-numbered : (layout : Layout) (words part : List ℕ) (first size : ℕ) {r : ℕ} → RunWithin part first size
+    → r ≡ numberOfElements layout words size (take (length part - (elementIndex first)) (drop (elementIndex first) part))
+    → r ≡ numberOfElements layout words size (runWords (elementsIn part) first size)
+run-numbered layout words part first size run n =
+    let there : 2 * size ≤ length part - (elementIndex first) = omega (arith, run .laid, run .within) in
+    let behind : List ℕ = drop (elementIndex first) part in
+    rw (run-in-slot part first size (run .within))
+    (n ∙ sym (number-of-front layout words size (take (length part - (elementIndex first)) behind))
+    ∙ ap (numberOfElements layout words size) (take-take (2 * size) (length part - (elementIndex first)) behind there))
 
 -- a run copied to the front is found there
 pub run-copied : (part target : List ℕ) (first size : ℕ) {copied : List ℕ} → RunWithin part first size → copied ≡ paste target 0 (runWords (elementsIn part) first size) (2 * size)

@@ -1,16 +1,18 @@
 -- What rewriting a slot leaves, in words.
-use Prim.Native.Nat.{ℕ, _+_, _*_, _≤_, _<_}
+use Prim.Native.Nat.{ℕ, _+_, _-_, _*_, _≤_, _<_}
 use mathlib.Core.Path.{_≡_}
 use mathlib.Core.List.{List, [], _∷_, _++_}
-use lib.ListN.{length, take, drop, set}
+use lib.ListN.{length, take, drop}
 use lib.Seq.{paste}
 use Rattle.store.specs.Element.{blockTag}
-use Rattle.measures.specs.Words.{headWords, firstFreeWord, firstFreeIndex}
+use Rattle.measures.specs.Words.{headWords, blocksWord, firstFreeWord}
 use Rattle.measures.specs.declared.sizes.Layout.{Layout}
 use Rattle.measures.specs.Layout.{LayoutFits, mostSlots}
-use Rattle.measures.specs.Slot.{slotPart, levelWord, codeWord, countWord, nextWord, OnlySlot, elementIndex, slotHead}
+use Rattle.measures.specs.Slot.{slotPart, levelWord, codeWord, countWord, numberWord, OnlySlot, elementIndex, slotHead}
 use Rattle.store.specs.Splice.{elementsIn, Spliced}
 use Rattle.store.specs.FreeSlots.{Released}
+use Rattle.store.specs.Numbers.{numberOfElements}
+use Rattle.store.proofs.FreeChains.{headTaken}
 use Rattle.measures.proofs.SlotWrites.{SlotWritten}
 use Rattle.rewrite.specs.declared.Forming.{Forming}
 use Rattle.rewrite.specs.declared.Forming.the-variants.{Formed, NoSlot}
@@ -79,18 +81,24 @@ pub record BlockFormed (layout : Layout) (slot level code first size fresh : ℕ
   pub fresh-is : fresh ≡ firstFreeWord before
   pub fresh-below : fresh < layout .slots
   pub was-free : levelWord (slotPart (layout .width) before fresh) ≡ 0
-  pub head : take headWords after ≡ set (take headWords before) firstFreeIndex (nextWord (slotPart (layout .width) before fresh))
+  pub some-left : blocksWord before < layout .slots
+  pub head : take headWords after ≡ headTaken layout fresh before
   pub others : (t : ℕ) → (t ≡ slot → ⊥) → (t ≡ fresh → ⊥) → slotPart (layout .width) after t ≡ slotPart (layout .width) before t
   pub past : (n : ℕ) → slot < n → fresh < n → drop (headWords + n * layout .width) after ≡ drop (headWords + n * layout .width) before
   pub new-block : (fresh ≡ slot → ⊥) → SlotNow (slotPart (layout .width) after fresh) level code (runWords (elementsIn (slotPart (layout .width) before slot)) first size)
   pub around : (fresh ≡ slot → ⊥)
       → SlotNow (slotPart (layout .width) after slot) (levelWord (slotPart (layout .width) before slot)) (codeWord (slotPart (layout .width) before slot))
       (withBlock (elementsIn (slotPart (layout .width) before slot)) first size (blockWords fresh level code))
+  -- the block says the number of its pixels, the slot around it says what it said
+  pub new-number : (fresh ≡ slot → ⊥)
+      → numberWord (slotPart (layout .width) after fresh) ≡ numberOfElements layout before size (runWords (elementsIn (slotPart (layout .width) before slot)) first size)
+  pub number-kept : (fresh ≡ slot → ⊥) → numberWord (slotPart (layout .width) after slot) ≡ numberWord (slotPart (layout .width) before slot)
 
 abbrev pub FormMeets : Layout → ℕ → ℕ → ℕ → ℕ → ℕ → List ℕ → List ℕ → Forming → Type 0
 FormMeets layout slot level code first size before after Formed = BlockFormed layout slot level code first size (firstFreeWord before) before after
 FormMeets layout slot level code first size before after NoSlot =
-    (after ≡ before) × (firstFreeWord before < layout .slots → levelWord (slotPart (layout .width) before (firstFreeWord before)) ≡ 0 → ⊥)
+    (after ≡ before)
+    × (firstFreeWord before < layout .slots → levelWord (slotPart (layout .width) before (firstFreeWord before)) ≡ 0 → blocksWord before < layout .slots → ⊥)
 
 -- the scratch has the elements beside the run, and the run as a block in this slot
 pub record LaidBeside (part : List ℕ) (slot level code first size : ℕ) (scratch scratch′ : List ℕ) (r : ℕ) : Type 0 where
@@ -104,11 +112,12 @@ pub record HandedUpBlock (layout : Layout) (slot level code first size : ℕ) (b
   pub long : length scratch′ ≡ length scratch
   pub handed : take (2 * r) scratch′ ≡ withBlock (elementsIn (slotPart (layout .width) before slot)) first size (blockWords slot level code)
   pub taken-over : SlotNow (slotPart (layout .width) after slot) level code (runWords (elementsIn (slotPart (layout .width) before slot)) first size)
+  pub number-is : numberWord (slotPart (layout .width) after slot) ≡ numberOfElements layout before size (runWords (elementsIn (slotPart (layout .width) before slot)) first size)
   pub only : OnlySlot (layout .width) slot before after
 
--- the scratch has all elements, and the slot is free
+-- the scratch has all elements, and the slot is free, one block less
 pub record HandedUpAll (layout : Layout) (slot : ℕ) (before after scratch scratch′ : List ℕ) (r : ℕ) : Type 0 where
   pub rest-is : r ≡ countWord (slotPart (layout .width) before slot)
   pub long : length scratch′ ≡ length scratch
   pub handed : take (2 * r) scratch′ ≡ elementsIn (slotPart (layout .width) before slot)
-  pub freed : Released (layout .width) slot before after
+  pub freed : Released (layout .width) slot (blocksWord before - 1) before after

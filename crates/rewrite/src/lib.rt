@@ -1,10 +1,11 @@
 // Rewriting slots: each is lent on for writing as a part of the store.
-ghost use Prim.Native.Nat.{_+_, _*_, _≤_, _<_};
+ghost use Prim.Native.Nat.{_+_, _-_, _*_, _≤_, _<_};
 ghost use mathlib.Core.Path.{_≡_};
 ghost use lib.ListN.{length};
 ghost use lib.Seq.{paste};
 ghost use Rattle.measures.specs.Layout.{LayoutFits, mostElements};
 ghost use Rattle.measures.specs.Slot.{slotPart, elementIndex, slotHead};
+ghost use Rattle.store.specs.Numbers.{numberOfElements};
 ghost use Rattle.store.specs.Splice.{elementsIn, CanSplice, withHeader};
 ghost use Rattle.measures.proofs.SlotWrites.{SlotWritten};
 ghost use Rattle.rewrite.specs.Rewrite.{RunWithin, CanCut, CanLayBeside, CanHandUp, runWords, SplicedSlot, RunMoved, LaidBeside, FormMeets, HandedUpBlock, HandedUpAll};
@@ -15,6 +16,7 @@ use measures::slots::SLOT_HEAD;
 use measures::slots::offset;
 use measures::slots::slot_part;
 use measures::slots::wide;
+use measures::words::BLOCKS;
 use store::elements::block_tag;
 use store::elements::copy_words;
 use store::elements::splice;
@@ -22,6 +24,7 @@ use store::elements::write_header;
 use store::free::FreeSlot;
 use store::free::release;
 use store::free::take_free;
+use store::sums::number_of_elements;
 
 // The elements of a slot written anew; its header is left to `head_slot`.
 fn lay_elements(store: &mut [u32], layout: Layout, slot: usize, source: &[u32], count: usize)
@@ -35,13 +38,22 @@ fn lay_elements(store: &mut [u32], layout: Layout, slot: usize, source: &[u32], 
 }
 
 // The header of a slot written anew.
-fn head_slot(store: &mut [u32], layout: Layout, slot: usize, level: u32, code: u32, count: usize)
+fn head_slot(
+    store: &mut [u32],
+    layout: Layout,
+    slot: usize,
+    level: u32,
+    code: u32,
+    count: usize,
+    number: u32,
+)
     requires { ⌜ (LayoutFits layout (now store) × (slot < layout .slots)) × (count ≤ mostElements) ⌝ }
-    ensures { λ _. ⌜ SlotWritten (layout .width) slot (now (store .entry)) (withHeader (slotPart (layout .width) (now (store .entry)) slot) level code count) (now (store .exit)) ⌝ }
+    ensures { λ _. ⌜ SlotWritten (layout .width) slot (now (store .entry)) (withHeader (slotPart (layout .width) (now (store .entry)) slot) level code count number) (now (store .exit)) ⌝ }
 {
     let at = offset(layout, slot);
     let width = layout.width;
-    write_header(&mut store[at..at + width], level, code, count as u32);
+    let elements = count as u32;
+    write_header(&mut store[at..at + width], level, code, elements, number);
 }
 
 // 01: a slot being rewritten is lent on for writing as a part of the store.
@@ -83,6 +95,15 @@ fn move_run(store: &mut [u32], layout: Layout, slot: usize, first: usize, size: 
     lay_elements(store, layout, other, &moved, size);
 }
 
+// How many pixels a run of a slot's elements stands for.
+fn number_of_run(store: &[u32], layout: Layout, part: &[u32], first: usize, size: usize) -> u32
+    requires { ⌜ LayoutFits layout (now store) × (RunWithin (now part) first size × (size ≤ mostElements)) ⌝ }
+    ensures { λ r. ⌜ r ≡ numberOfElements layout (now (store .entry)) size (runWords (elementsIn (now (part .entry))) first size) ⌝ }
+{
+    let at = SLOT_HEAD + 2 * first;
+    number_of_elements(store, layout, &part[at..], size)
+}
+
 pub enum Forming {
     Formed,
     NoSlot,
@@ -105,10 +126,11 @@ pub fn form_block(
     let FreeSlot::Taken(fresh) = take_free(store, layout) else {
         return Forming::NoSlot;
     };
+    let number = number_of_run(store, layout, slot_part(store, layout, slot), first, size);
     move_run(store, layout, slot, first, size, wide(fresh));
     let one = [code, block_tag(fresh, level)];
     splice_slot(store, layout, slot, first, size, &one, 1);
-    head_slot(store, layout, wide(fresh), level, code, size);
+    head_slot(store, layout, wide(fresh), level, code, size, number);
     Forming::Formed
 }
 
@@ -157,9 +179,20 @@ pub fn hand_up_block(
         size,
         scratch,
     );
+    let number = number_of_run(store, layout, slot_part(store, layout, slot), first, size);
     move_run(store, layout, slot, first, size, slot);
-    head_slot(store, layout, slot, level, code, size);
+    head_slot(store, layout, slot, level, code, size, number);
     rest
+}
+
+// Damaged words may count no block where there is one.
+fn one_less(held: u32) -> u32
+    ensures { λ r. ⌜ r ≡ held - 1 ⌝ }
+{
+    if held < 1 {
+        return held;
+    }
+    held - 1
 }
 
 // An underfull block that forms none hands all its elements up, and its slot is free again.
@@ -170,6 +203,8 @@ pub fn hand_up_all(store: &mut [u32], layout: Layout, slot: usize, scratch: &mut
     let part = slot_part(store, layout, slot);
     let count = wide(part[COUNT]);
     copy_run(scratch, 0, part, 0, count);
-    release(store, layout, slot);
+    let held = store[BLOCKS];
+    let left = one_less(held);
+    release(store, layout, slot, left);
     count
 }

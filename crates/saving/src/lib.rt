@@ -122,7 +122,7 @@ fn write_front(
     write_image(store, sizes, pixels, blocks, &mut output[..n])
 }
 
-// 01's save, where refusal 3 does not apply: the entries are counted, then a walk writes each once and finds as many.
+// 01's save, where refusal 3 does not apply: the number of entries is read, then a walk writes each once and finds as many.
 pub fn save(store: &[u32], sizes: Sizes, output: &mut [u8]) -> Saving
     requires { ⌜ UsableStore (now store) × (sizes ≡ sizesOf (now store)) ⌝ }
     ensures { λ r. ⌜ Saves (now (store .entry)) (effect (saveAnswer r) (now (output .entry)) (now (output .exit))) ⌝ }

@@ -4,7 +4,7 @@ use native.Mathlib.Omega.{arith}
 use mathlib.Core.Path.{_≡_}
 use mathlib.Core.List.{List}
 use lib.Dec.{eqb}
-use Rattle.measures.specs.Words.{pixelsWord}
+use Rattle.measures.specs.Words.{blocksWord}
 use Rattle.measures.specs.declared.sizes.Layout.{Layout}
 use Rattle.measures.specs.declared.sizes.Sizes.{Sizes}
 use Rattle.measures.specs.Decides.{Decides}
@@ -50,5 +50,5 @@ module _ {words : List ℕ} {sizes : Sizes} {layout : Layout} (usable : UsableSt
     pub slots-lost : (blocks + free ≡ layout .slots → ⊥) → IsSound words → ⊥
     slots-lost differ h = differ (omega (arith, numbers-agree words usable walked-of-words followed-of-words h .0, slots-of-words words said laid))
 
-    pub pixels-decide : blocks + free ≡ layout .slots → Decides (eqb (pixelsWord words) (seen .pixels)) (IsSound words)
-    pixels-decide all = decided-by-counts words usable walked-of-words followed-of-words (omega (arith, slots-of-words words said laid))
+    pub blocks-decide : blocks + free ≡ layout .slots → Decides (eqb (blocksWord words) (seen .blocks)) (IsSound words)
+    blocks-decide all = decided-by-counts words usable walked-of-words followed-of-words (omega (arith, slots-of-words words said laid))

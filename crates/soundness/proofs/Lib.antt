@@ -9,7 +9,6 @@ pub mod WalkRefusals
 pub mod BlockWalks
 pub mod ElementWalks
 pub mod ChainFollowed
-pub mod SlotTotals
 pub mod SlotsOnce
 pub mod RootSlots
 pub mod RootWalks

@@ -11,6 +11,7 @@ use Rattle.pktree.proofs.LocalTest.{heads, slotTest, insideTest, both}
 use Rattle.store.specs.Placed.{Placed, slotsOf}
 use Rattle.store.proofs.Standing.{every-left, every-right, every-join}
 use Rattle.store.proofs.PlacedJoin.{slots-join, stands-join, stands-parts}
+use Rattle.store.proofs.BlockNumbers.{TreeNumbers, tree-numbers-parts}
 use Rattle.soundness.specs.declared.walk.Limits.{Limits}
 use Rattle.soundness.specs.declared.walk.Claim.{Claim}
 use Rattle.soundness.specs.Walk.{StandsRight, BlockAt}
@@ -21,6 +22,11 @@ inside-join k (pixel c f) g = inside-join k f g
 inside-join k (blockAt v zero c es f) g = refl
 inside-join k (blockAt v (suc i) c es f) g = rw (inside-join k f g, and-assoc, and-assoc, and-assoc)
 
+tree-numbers-join : (width : ℕ) (words : List ℕ) (a b : Placed) → TreeNumbers width words a → TreeNumbers width words b → TreeNumbers width words (a ⧺ b)
+tree-numbers-join width words empty b p q = q
+tree-numbers-join width words (pixel c a) b p q = tree-numbers-join width words a b p q
+tree-numbers-join width words (blockAt s i c es a) b p q = (p .0, p .1, tree-numbers-join width words a b (p .2) q)
+
 module _ {limits : Limits} {words : List ℕ} where
   pub right-join : (a b : Placed) → StandsRight limits words a → StandsRight limits words b → StandsRight limits words (a ⧺ b)
   right-join a b p q =
@@ -28,22 +34,24 @@ module _ {limits : Limits} {words : List ℕ} where
         stands = stands-join (limits .layout .width) words a b (p .stands) (q .stands);
         right = inside-join (limits .k) a b ∙ ap₂ _&&_ (p .right) (q .right);
         inside = rw (slots-join a b) (every-join _ (slotsOf a) (slotsOf b) (p .inside) (q .inside));
+        numbers = tree-numbers-join (limits .layout .width) words a b (p .numbers) (q .numbers);
       }
 
   pub right-parts : (a b : Placed) → StandsRight limits words (a ⧺ b) → StandsRight limits words a × StandsRight limits words b
   right-parts a b h =
       let s = stands-parts (limits .layout .width) words a b (h .stands) in
       let r = both (insideTest (limits .k) a) (insideTest (limits .k) b) (sym (inside-join (limits .k) a b) ∙ h .right) in
-      let i = rw (slots-join a b) at (h .inside) in (
-        record { stands = s .0; right = r .0; inside = every-left _ (slotsOf a) (slotsOf b) i },
-        record { stands = s .1; right = r .1; inside = every-right _ (slotsOf a) (slotsOf b) i },
+      let i = rw (slots-join a b) at (h .inside) in
+      let n = tree-numbers-parts (limits .layout .width) words a b (h .numbers) in (
+        record { stands = s .0; right = r .0; inside = every-left _ (slotsOf a) (slotsOf b) i; numbers = n .0 },
+        record { stands = s .1; right = r .1; inside = every-right _ (slotsOf a) (slotsOf b) i; numbers = n .1 },
       )
 
   pub right-nothing : StandsRight limits words empty
-  right-nothing = record { stands = tt; right = refl; inside = tt }
+  right-nothing = record { stands = tt; right = refl; inside = tt; numbers = tt }
 
   pub right-pixel : (c : ℕ) → StandsRight limits words (pixel c empty)
-  right-pixel c = record { stands = tt; right = refl; inside = tt }
+  right-pixel c = record { stands = tt; right = refl; inside = tt; numbers = tt }
 
 -- a block among elements, as an element names it
 abbrev pub child : Limits → ℕ → ℕ → ℕ → Claim
@@ -79,6 +87,7 @@ module _ {limits : Limits} {words : List ℕ} where
         stands = (small, b .says, b .elements .stands, tt);
         right = inside-block (limits .k) s i c es (record { level-from = low; many = b .many; passes = b .passes; right = b .elements .right });
         inside = (below, rw (append-nil (slotsOf es)) (b .elements .inside));
+        numbers = (b .number, b .elements .numbers, tt);
       }
 
   pub right-block : (s i c : ℕ) (es : Placed) → StandsRight limits words (blockAt s i c es empty)
@@ -91,6 +100,7 @@ module _ {limits : Limits} {words : List ℕ} where
           says = h .stands .1;
           many = b .many;
           passes = b .passes;
-          elements = record { stands = h .stands .2; right = b .right; inside = every-left _ (slotsOf es) [] (h .inside .1) };
+          elements = record { stands = h .stands .2; right = b .right; inside = every-left _ (slotsOf es) [] (h .inside .1); numbers = h .numbers .1 };
+          number = h .numbers .0;
         },
       )

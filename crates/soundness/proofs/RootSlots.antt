@@ -12,8 +12,9 @@ use Rattle.store.specs.Placed.{Placed, slotsOf}
 use Rattle.store.specs.FreeSlots.{noSlot, FreeChain, occurrences}
 use Rattle.store.proofs.Standing.{SlotSays, Stands}
 use Rattle.store.proofs.FreeChains.{occurrences-same, occurrences-other, occurrences-join}
-use Rattle.soundness.proofs.SlotTotals.{every-occurs}
-use Rattle.soundness.proofs.SlotsOnce.{tree-slot-level, tree-slots-once, chain-idle, chain-once}
+use Rattle.store.proofs.BlockNumbers.{chain-levels}
+use Rattle.store.proofs.SlotTotals.{every-occurs}
+use Rattle.soundness.proofs.SlotsOnce.{tree-slot-level, tree-slots-once, chain-once}
 
 -- what is at most once in each of three lists, and in one of them only, is at most once in all
 one-of-three : {a u v level order : ℕ} → a ≤ 1 → u ≤ 1 → v ≤ 1 → 1 ≤ order → (1 ≤ a → level ≡ order) → (1 ≤ u → (1 ≤ level) × (level < order)) → (1 ≤ v → level ≡ 0)
@@ -45,7 +46,7 @@ root-slots-once width words k order code to slot slots first es free low few say
     (chain-once width words slots few first free x inside chain) low
     (every-occurs (λ s. levelWord (slotPart width words s) ≡ order) x (slot ∷ []) (says .level-is, tt))
     (tree-slot-level width words k order code to es x stands arranged)
-    (every-occurs _ x free (chain-idle width words first free chain)) in
+    (every-occurs _ x free (chain-levels width words first free chain)) in
     omega (
       arith,
       occurrences-join x (slot ∷ (slotsOf es ++ [])) free,

@@ -17,6 +17,7 @@ use Rattle.measures.proofs.Usable.{sizes-valid, layout-said, layout-fits}
 use Rattle.store.specs.Placed.{Placed}
 use Rattle.store.specs.Sound.{Sound}
 use Rattle.store.proofs.SoundView.{sound-view}
+use Rattle.store.proofs.BlockView.{root-view}
 use Rattle.soundness.specs.declared.walk.Claim.{Claim}
 use Rattle.soundness.specs.declared.walk.Limits.{Limits}
 use Rattle.soundness.specs.declared.walk.Seen.{Seen}
@@ -79,6 +80,7 @@ pub record SoundRoot (words : List ℕ) (placed : Placed) : Type 0 where
 pub sound-root : (words : List ℕ) (placed : Placed) → Sound words placed → SoundRoot words placed
 sound-root words placed sound =
     let (es, v) = sound-view words placed sound in
+    let root = root-view words placed es sound v in
     let valid = sound .usable .valid .panel in
     let k : ℕ = sizesOf words .k in
     let t = tested-exactly k (sizesOf words .order) 0 es (valid .order-from) (omega (arith, valid .k-from)) .1 (v .right) in
@@ -90,7 +92,8 @@ sound-root words placed sound =
         says = v .says;
         many = omega arith;
         passes = b .0;
-        elements = record { stands = v .stands; right = b .1; inside = v .inside };
+        elements = record { stands = v .stands; right = b .1; inside = v .inside; numbers = root .numbers };
+        number = root .number;
       };
       room = record {
         blocks-to = omega (arith, v .few);

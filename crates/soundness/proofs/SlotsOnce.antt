@@ -1,4 +1,4 @@
--- No slot twice: headers tell the blocks of a right tree apart, a free slot has level 0, and a chain that ends does not come back.
+-- No slot twice: headers tell the blocks of a right tree apart, and a chain that ends does not come back.
 use Prim.Native.Nat.{ℕ, suc, _+_, _^_, _≤_, _<_}
 use native.Mathlib.Omega.{arith}
 use native.Mathlib.Decide.{ℕ-discrete, decLe}
@@ -13,7 +13,7 @@ use Rattle.store.specs.Placed.{Placed, slotsOf}
 use Rattle.store.specs.FreeSlots.{noSlot, FreeChain, occurrences}
 use Rattle.store.proofs.Standing.{Stands, every-join}
 use Rattle.store.proofs.FreeChains.{every-map, first-once, occurrences-same, occurrences-other, occurrences-join}
-use Rattle.soundness.proofs.SlotTotals.{every-occurs}
+use Rattle.store.proofs.SlotTotals.{every-occurs}
 
 module _ (width : ℕ) (words : List ℕ) where
   -- the header of a slot: a level from 1 to below n, a code from `from` to below `to`
@@ -97,10 +97,6 @@ module _ (width : ℕ) (words : List ℕ) where
           none (no p) o = omega (arith, occurrences-join x (slotsOf es) (slotsOf t))
 
   -- the slots of a chain that ends
-  pub chain-idle : (first : ℕ) (free : List ℕ) → FreeChain width words first free → Every (λ s. levelWord (slotPart width words s) ≡ 0) free
-  chain-idle first [] c = tt
-  chain-idle first (s ∷ free) c = (c .1, chain-idle (nextWord (slotPart width words s)) free (c .2))
-
   pub chain-once : (slots : ℕ) → slots ≤ noSlot → (first : ℕ) (free : List ℕ) (x : ℕ) → Every (λ s. s < slots) free → FreeChain width words first free
       → occurrences x free ≤ 1
   chain-once slots few first [] x p c = omega arith

@@ -4,13 +4,15 @@ use native.Mathlib.Omega.{arith}
 use mathlib.Core.Path.{_≡_, refl, ap, subst, sym, _∙_}
 use mathlib.Core.Bool.{true}
 use mathlib.Core.List.{List, [], _∷_, _++_, append-nil}
+use lib.ListN.{length}
 use borrow.Author.Tests.{le-leb, leb-true}
 use Rattle.pktree.specs.Elements.{size, _⧺_, blockAt, empty, pixel}
+use Rattle.pktree.specs.Tree.{pixels}
 use Rattle.pktree.proofs.LocalTest.{heads, slotTest}
 use Rattle.pktree.proofs.Forests.{join-assoc, join-empty, size-join}
 use Rattle.store.specs.declared.elements.Element.{Element}
 use Rattle.store.specs.Element.{elementAt}
-use Rattle.measures.specs.Slot.{countWord}
+use Rattle.measures.specs.Slot.{countWord, numberWord}
 use Rattle.store.specs.Opening.{HeaderSays}
 use Rattle.store.specs.Placed.{Placed}
 use Rattle.store.proofs.BlockView.{element-pixel, element-block}
@@ -101,26 +103,32 @@ module _ {limits : Limits} {words : List ℕ} {claim : Claim} {first : Seen} {i 
 
   -- all elements are read
   module _ {count : ℕ} (opened : HeaderSays (partOf limits words claim) (claim .level) (claim .code) count) (all : i ≡ count) where
-    pub past-end : claim .code + 4 ^ suc (claim .level - 1) < pass .from → (es : Placed) → BlockAt limits words claim es → ⊥
-    past-end far es b = go (begun es b (omega (arith, b .says .count-is)) .left) (begun es b (omega (arith, b .says .count-is)) .is)
+    -- so a block as claimed has these
+    all-read : (es : Placed) → BlockAt limits words claim es → es ≡ old
+    all-read es b = go (begun es b (omega (arith, b .says .count-is)) .left) (begun es b (omega (arith, b .says .count-is)) .is)
       where
-        go : (left : Placed) → es ≡ old ⧺ left → ⊥
-        go empty e =
-            let h : heads es ≡ heads old ++ [] = ap (λ (t : Placed). heads t) (e ∙ join-empty old) ∙ sym (append-nil _) in
-            let t : leftTest limits claim pass [] ≡ true =
-            sym (w .passed []) ∙ ap (slotTest (limits .k) (claim .level - 1) (claim .code)) (sym h) ∙ b .passes in
-            omega (arith, leb-true (pass .from) (claim .code + 4 ^ suc (claim .level - 1)) t)
-        go (pixel c rest) e =
-            omega (arith, w .many, b .says .count-is, opened .count-is, ap size e, size-join old (pixel c rest))
-        go (blockAt s j c fs rest) e =
-            omega (arith, w .many, b .says .count-is, opened .count-is, ap size e, size-join old (blockAt s j c fs rest))
+        go : (left : Placed) → es ≡ old ⧺ left → es ≡ old
+        go empty e = e ∙ join-empty old
+        go (pixel c rest) e = absurd (omega (arith, w .many, b .says .count-is, opened .count-is, ap size e, size-join old (pixel c rest)))
+        go (blockAt s j c fs rest) e = absurd (omega (arith, w .many, b .says .count-is, opened .count-is, ap size e, size-join old (blockAt s j c fs rest)))
 
-    pub whole : claim .least ≤ count → pass .from ≤ claim .code + 4 ^ suc (claim .level - 1) → BlockAt limits words claim old
-    whole enough ends =
+    pub past-end : claim .code + 4 ^ suc (claim .level - 1) < pass .from → (es : Placed) → BlockAt limits words claim es → ⊥
+    past-end far es b =
+        let h : heads es ≡ heads old ++ [] = ap (λ (t : Placed). heads t) (all-read es b) ∙ sym (append-nil _) in
+        let t : leftTest limits claim pass [] ≡ true = sym (w .passed []) ∙ ap (slotTest (limits .k) (claim .level - 1) (claim .code)) (sym h) ∙ b .passes in
+        omega (arith, leb-true (pass .from) (claim .code + 4 ^ suc (claim .level - 1)) t)
+
+    pub wrong-number : (numberWord (partOf limits words claim) ≡ length (pixels old) → ⊥) → (es : Placed) → BlockAt limits words claim es → ⊥
+    wrong-number differ es b = differ (b .number ∙ ap (λ (t : Placed). length (pixels t)) (all-read es b))
+
+    pub whole : claim .least ≤ count → pass .from ≤ claim .code + 4 ^ suc (claim .level - 1) → numberWord (partOf limits words claim) ≡ length (pixels old)
+        → BlockAt limits words claim old
+    whole enough ends number =
         record {
           says = record { level-is = opened .level-is; code-is = opened .code-is; count-is = omega (arith, opened .count-is, w .many); elements-are = w .names };
           many = omega (arith, w .many);
           passes = ap (slotTest (limits .k) (claim .level - 1) (claim .code)) (sym (append-nil (heads old))) ∙ w .passed []
               ∙ le-leb (pass .from) (claim .code + 4 ^ suc (claim .level - 1)) ends;
           elements = w .right;
+          number = number;
         }

@@ -12,9 +12,10 @@ use Rattle.pktree.proofs.LocalTest.{heads, slotTest, insideTest}
 use Rattle.store.specs.declared.elements.Element.{Element}
 use Rattle.store.specs.declared.elements.Element.the-variants.{Pixel, Block}
 use Rattle.measures.specs.Layout.{LayoutFits}
-use Rattle.measures.specs.Slot.{slotPart}
+use Rattle.measures.specs.Slot.{slotPart, numberWord}
 use Rattle.store.specs.Placed.{Placed, slotsOf}
 use Rattle.store.proofs.Standing.{SlotSays, Stands}
+use Rattle.store.proofs.BlockNumbers.{TreeNumbers}
 use Rattle.store.specs.declared.opening.Opening.{Opening}
 use Rattle.store.specs.declared.opening.Opening.the-variants.{Elements, Damaged}
 use Rattle.store.specs.Opening.{HeaderSays}
@@ -40,18 +41,20 @@ pub record WithinLimits (limits : Limits) (seen : Seen) : Type 0 where
 abbrev pub seenWith : {A : Type 0} → Seen → ForestOf A → Seen
 seenWith seen f = record { blocks = seen .blocks + blockCount f; pixels = seen .pixels + length (pixels f) }
 
--- elements that stand in the words, in slots that there are, with every block among them right by the local law
+-- elements that stand in the words, in slots that there are, with every block among them right by the local law and by its number
 pub record StandsRight (limits : Limits) (words : List ℕ) (t : Placed) : Type 0 where
   pub stands : Stands (limits .layout .width) words t
   pub right : insideTest (limits .k) t ≡ true
   pub inside : Every (λ s. s < limits .layout .slots) (slotsOf t)
+  pub numbers : TreeNumbers (limits .layout .width) words t
 
--- a block in its slot, right by the local law, with at least so many elements
+-- a block in its slot, right by the local law, with at least so many elements; the slot says how many pixels it has
 pub record BlockAt (limits : Limits) (words : List ℕ) (claim : Claim) (es : Placed) : Type 0 where
   pub says : SlotSays (slotPart (limits .layout .width) words (claim .slot)) (claim .level) (claim .code) es
   pub many : claim .least ≤ size es
   pub passes : slotTest (limits .k) (claim .level - 1) (claim .code) (heads es) ≡ true
   pub elements : StandsRight limits words es
+  pub number : numberWord (slotPart (limits .layout .width) words (claim .slot)) ≡ length (pixels es)
 
 pub record CanWalk (limits : Limits) (words : List ℕ) (claim : Claim) (seen : Seen) : Type 0 where
   pub can : CanLook limits words

@@ -13,7 +13,7 @@ use crate::walk::walk_block;
 use measures::sizes::Sizes;
 use measures::sizes::layout_of;
 use measures::slots::wide;
-use measures::words::PIXELS;
+use measures::words::BLOCKS;
 
 mod chain;
 mod pass;
@@ -49,5 +49,5 @@ pub fn is_sound(store: &[u32], sizes: Sizes) -> bool
     if wide(seen.blocks) + free != layout.slots {
         return false;
     }
-    store[PIXELS] == seen.pixels
+    store[BLOCKS] == seen.blocks
 }

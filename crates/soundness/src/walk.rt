@@ -5,6 +5,7 @@ use crate::pass::block_end;
 use crate::pass::first_pass;
 use crate::pass::pass_element;
 use measures::sizes::Layout;
+use measures::slots::NUMBER;
 use measures::slots::slot_part;
 use measures::slots::wide;
 use store::elements::Element;
@@ -58,7 +59,7 @@ fn open_block(store: &[u32], limits: Limits, claim: Claim, seen: Seen) -> Openin
     Opening::Elements(count)
 }
 
-// The block that is claimed, with all that is inside it.
+// The block that is claimed, with all that is inside it; its slot says how many pixels these are.
 pub fn walk_block(store: &[u32], limits: Limits, claim: Claim, seen: Seen) -> Walked
     requires { ⌜ CanWalk limits (now store) claim seen ⌝ }
     ensures { λ r. ⌜ WalkMeets limits (now (store .entry)) claim seen r ⌝ }
@@ -87,6 +88,9 @@ pub fn walk_block(store: &[u32], limits: Limits, claim: Claim, seen: Seen) -> Wa
         i += 1;
     }
     if block_end(claim.level, claim.code) < pass.from {
+        return Walked::Unsound;
+    }
+    if part[NUMBER] != seen_now.pixels - seen.pixels {
         return Walked::Unsound;
     }
     Walked::Whole(seen_now)

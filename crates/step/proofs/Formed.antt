@@ -18,7 +18,7 @@ use Rattle.store.proofs.PlacedJoin.{slots-join, stands-join, stands-parts}
 use Rattle.store.proofs.FreeChains.{occurrences-join}
 use Rattle.rewrite.specs.Rewrite.{blockWords, runWords, withBlock}
 use Rattle.rewrite.proofs.SlotNows.{says-now}
-use Rattle.ascent.proofs.FormedAt.{FormedAt}
+use Rattle.ascent.proofs.FormedAt.{FormedAt, pixels-in-parts, slots-in-parts}
 use Rattle.step.proofs.PlacedWords.{middle-words, block-words}
 
 module _ {k level code x j first n : ℕ} {es : Placed} (g : FormedAt k level code x j first n es) where
@@ -27,10 +27,7 @@ module _ {k level code x j first n : ℕ} {es : Placed} (g : FormedAt k level co
   formedAs t = g .before ⧺ blockAt t j (blockCode j x) (g .run) (g .after)
 
   pub formed-pixels : (t : ℕ) → pixels (formedAs t) ≡ pixels es
-  formed-pixels t =
-      pixels-join (g .before) (blockAt t j (blockCode j x) (g .run) (g .after))
-      ∙ sym (ap pixels (g .is) ∙ pixels-join (g .before) (g .run ⧺ g .after)
-      ∙ ap (λ (l : List ℕ). pixels (g .before) ++ l) (pixels-join (g .run) (g .after)))
+  formed-pixels t = pixels-join (g .before) (blockAt t j (blockCode j x) (g .run) (g .after)) ∙ sym (pixels-in-parts g)
 
   -- how many elements there are then
   pub formed-size : (t : ℕ) → size (formedAs t) + n ≡ size es + 1
@@ -54,9 +51,6 @@ module _ {k level code x j first n : ℕ} {es : Placed} (g : FormedAt k level co
         blockCount-join (g .run) (g .after),
       )
 
-  slots-are : slotsOf es ≡ slotsOf (g .before) ++ (slotsOf (g .run) ++ slotsOf (g .after))
-  slots-are = ap slotsOf (g .is) ∙ slots-join (g .before) (g .run ⧺ g .after) ∙ ap (λ (l : List ℕ). slotsOf (g .before) ++ l) (slots-join (g .run) (g .after))
-
   -- the slots are those that were there, and the block's
   pub slots-and-block : (t u : ℕ) → occurrences u (slotsOf (formedAs t)) ≡ occurrences u (t ∷ []) + occurrences u (slotsOf es)
   slots-and-block t u =
@@ -68,7 +62,7 @@ module _ {k level code x j first n : ℕ} {es : Placed} (g : FormedAt k level co
         ap (occurrences u) (slots-join (g .before) (blockAt t j (blockCode j x) (g .run) (g .after))),
         occurrences-join u a (t ∷ (b ++ c)),
         occurrences-join u (t ∷ []) (b ++ c),
-        ap (occurrences u) slots-are,
+        ap (occurrences u) (slots-in-parts g),
         occurrences-join u a (b ++ c),
       )
 
@@ -91,7 +85,7 @@ module _ {k level code x j first n : ℕ} {es : Placed} (g : FormedAt k level co
   block-stands width words after t agree st small says =
       let there = stands-parts width words (g .before) (g .run ⧺ g .after) (subst (Stands width words) (g .is) st) in
       let behind = stands-parts width words (g .run) (g .after) (there .1) in
-      let same = subst (Every (λ i. slotPart width words i ≡ slotPart width after i)) slots-are agree in
+      let same = subst (Every (λ i. slotPart width words i ≡ slotPart width after i)) (slots-in-parts g) agree in
       let same-behind = every-right _ (slotsOf (g .before)) (slotsOf (g .run) ++ slotsOf (g .after)) same in
       stands-join width after (g .before) (blockAt t j (blockCode j x) (g .run) (g .after))
       (frame width words after (g .before) (every-left _ (slotsOf (g .before)) (slotsOf (g .run) ++ slotsOf (g .after)) same) (there .0)) (

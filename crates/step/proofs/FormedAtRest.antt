@@ -1,21 +1,22 @@
 -- A block is formed in a free slot: there is one, and the change is at rest.
-use Prim.Native.Nat.{ℕ, _+_, _≤_, _<_}
+use Prim.Native.Nat.{ℕ, _+_, _≤_}
 use native.Mathlib.Omega.{arith}
 use mathlib.Core.Path.{_≡_, refl, ap, subst, sym, _∙_}
 use mathlib.Core.Logic.{_⊎_}
 use mathlib.Core.List.{List, [], _∷_, _++_}
-use lib.ListN.{length, set}
+use lib.ListN.{length}
 use Rattle.pktree.specs.Lists.{Every}
 use Rattle.pktree.specs.Elements.{size}
 use Rattle.pktree.proofs.Alignment.{blockCode}
-use Rattle.measures.specs.Words.{firstFreeWord}
-use Rattle.measures.specs.Slot.{slotPart, levelWord, nextWord}
+use Rattle.measures.specs.Slot.{slotPart}
 use Rattle.measures.specs.Layout.{LayoutFits}
 use Rattle.store.specs.Placed.{Placed, slotsOf}
-use Rattle.store.specs.FreeSlots.{FreeSlots, occurrences}
+use Rattle.store.specs.declared.free.FreeSlot.the-variants.{Missing}
+use Rattle.store.specs.FreeSlots.{occurrences, TookFree}
 use Rattle.store.proofs.Standing.{every-right}
-use Rattle.measures.proofs.SlotWrites.{HeadWritten, word-in-front}
-use Rattle.store.proofs.FreeChains.{absent, every-map, free-kept, first-taken, none-free, occurrences-join, occurrences-same}
+use Rattle.measures.proofs.SlotWrites.{HeadWritten}
+use Rattle.store.proofs.FreeChains.{absent, every-map, headTaken, none-free, occurrences-join, occurrences-same}
+use Rattle.store.proofs.SlotsLeft.{SlotsLeft, left-kept, left-taken}
 use Rattle.descent.specs.Way.{Frame}
 use Rattle.rewrite.specs.Rewrite.{SlotNow, BlockFormed}
 use Rattle.rewrite.proofs.SlotNows.{now-says}
@@ -25,32 +26,29 @@ use Rattle.ascent.proofs.FormedAt.{FormedAt}
 use Rattle.ascent.proofs.Completed.{Completed, AtRest, completed}
 use Rattle.ascent.proofs.FramesStand.{frames-kept}
 use Rattle.ascent.proofs.SlotCounts.{shared-moves}
-use Rattle.ascent.proofs.Around.{level-is, holds-x, way-elsewhere, elements-elsewhere, free-elsewhere}
+use Rattle.ascent.proofs.Around.{holds-x, way-elsewhere, elements-elsewhere, free-elsewhere}
 use Rattle.ascent.proofs.SlotForBlock.{slot-for-block}
+use Rattle.step.proofs.StepNumbers.{numbered-by-forming}
 use Rattle.step.proofs.Formed.{formedAs, formed-pixels, one-block-more, slots-and-block, run-words, with-block-words, block-stands}
 
 module _ {σ : Setting} {words : List ℕ} {way : List Frame} {s level code : ℕ} {es : Placed} {free : List ℕ} (h : Laid σ words way s level code es free)
     {j first n : ℕ} (g : FormedAt (σ .k) level code (σ .x) j first n es) where
   pub never-without-slot : {after : List ℕ} → (level ≡ σ .m) ⊎ (σ .k ≤ size (formedAs g 0))
-      → (after ≡ words) × (firstFreeWord words < slotsIn σ → levelWord (slotPart (widthIn σ) words (firstFreeWord words)) ≡ 0 → ⊥) → ⊥
+      → TookFree (σ .layout) words after Missing → ⊥
   never-without-slot {after} enough missing =
       let o = h .around in
       slot-for-block o (g .right 0) enough (one-block-more g 0) (formed-pixels g 0)
-      (none-free (σ .layout) free words after (every-right _ (waySlots way ++ (s ∷ slotsOf es)) free (o .shared .inside)) missing (o .free-chain))
+      (none-free (σ .layout) free words after (every-right _ (waySlots way ++ (s ∷ slotsOf es)) free (o .shared .inside)) missing (o .free-chain .chain) (o .free-chain .others))
 
   -- the block stands in the first free slot
   pub at-rest-with-block : {fresh : ℕ} {after : List ℕ} → LayoutFits (σ .layout) words → (level ≡ σ .m) ⊎ (σ .k ≤ size (formedAs g fresh))
       → BlockFormed (σ .layout) s j (blockCode j (σ .x)) first n fresh words after → Completed σ after
   at-rest-with-block {fresh} {after} fits enough u =
-      let taken = first-taken (σ .layout) fresh free words (set words 7 (nextWord (slotPart (widthIn σ) words fresh))) fits
-      (u .fresh-is, u .fresh-below, u .was-free, refl) (h .around .free-chain) in
-      finish (taken .rest) (taken .is) (taken .chain) (taken .written)
+      let taken = left-taken fits (u .fresh-is, u .fresh-below, u .was-free, u .some-left, refl) (h .around .free-chain) in
+      finish (taken .rest) (taken .is) (taken .left) (taken .written)
     where
-      next : ℕ
-      next = nextWord (slotPart (widthIn σ) words fresh)
-
-      finish : (rest : List ℕ) → free ≡ fresh ∷ rest → FreeSlots (widthIn σ) (set words 7 next) rest → HeadWritten (widthIn σ) 7 next words (set words 7 next) → Completed σ after
-      finish rest e chain written =
+      finish : {mid : List ℕ} (rest : List ℕ) → free ≡ fresh ∷ rest → SlotsLeft (widthIn σ) (slotsIn σ) mid rest → HeadWritten (widthIn σ) (headTaken (σ .layout) fresh words) words mid → Completed σ after
+      finish rest e left written =
           let o = h .around in
           let around-says = u .around (not-s .0) in
           let rests : AtRest σ after way s level code (formedAs g fresh) rest = record {
@@ -69,10 +67,10 @@ module _ {σ : Setting} {words : List ℕ} {way : List Frame} {s level code : �
                 (now-says (subst (SlotNow (slotPart (widthIn σ) after fresh) j (blockCode j (σ .x))) (run-words g (h .says)) (u .new-block (not-s .0))));
             right = g .right fresh;
             enough = enough;
-            free-chain = free-kept (widthIn σ) (set words 7 next) after rest (word-in-front 8 7 (set words 7 next) after (omega arith) (u .head ∙ sym (written .head)))
-                (every-map _ _ rest (λ t q. written .slots t ∙ q) (same rest (not-s .1) (absent fresh rest (omega (arith, once))))) chain;
+            free-chain = left-kept (u .head ∙ sym (written .head-is)) (every-map _ _ rest (λ t q. written .slots t ∙ q) (same rest (not-s .1) (absent fresh rest (omega (arith, once))))) left;
             shared = shared-moves (slotsIn σ) (waySlots way ++ (s ∷ slotsOf es)) free (waySlots way ++ (s ∷ slotsOf (formedAs g fresh))) rest (o .shared) moved;
             pixels-are = plug-pixels way s level code (formedAs g fresh) es (formed-pixels g fresh) ∙ o .pixels-are;
+            numbered = numbered-by-forming h g u;
           } in
           completed rests
         where

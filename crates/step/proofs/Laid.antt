@@ -25,6 +25,7 @@ use Rattle.step.specs.Step.{mostHandedUp}
 use Rattle.ascent.proofs.Around.{level-is, holds-x, slot-below, around-kept}
 use Rattle.ascent.proofs.RunLaw.{no-run}
 use Rattle.step.proofs.PlacedWords.{spliced-words}
+use Rattle.step.proofs.StepNumbers.{numbered-by-splice}
 
 pub sizes : (a t b : Placed) → size (a ⧺ (t ⧺ b)) ≡ size a + (size t + size b)
 sizes a t b = size-join a (t ⧺ b) ∙ ap (λ (n : ℕ). size a + n) (size-join t b)
@@ -53,7 +54,7 @@ module _ {σ : Setting} {before : List ℕ} {way : List Frame} {s level code : �
       let e = ap (λ (l : List ℕ). take (2 * place) l ++ (take (2 * inserted) scratch ++ drop (2 * (place + removed)) l)) (says-now (h .says) .elements-are)
       ∙ spliced-words a old b scratch new place removed inserted place-is removed-is scratch-is in
       record {
-        around = around-kept (h .around) (r .only);
+        around = around-kept (h .around) (r .only) (numbered-by-splice (h .around .numbered) (slot-below (h .around)) can r);
         says = now-says (record {
           level-is = now .level-is ∙ h .says .level-is;
           code-is = now .code-is ∙ h .says .code-is;
@@ -87,5 +88,6 @@ module _ {σ : Setting} {words : List ℕ} {way : List Frame} {s level code : �
         free-chain = o .free-chain;
         shared = o .shared;
         pixels-are = o .pixels-are;
+        numbered = o .numbered;
       } in
       completed rest

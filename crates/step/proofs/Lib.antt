@@ -1,7 +1,8 @@
 pub mod PutLaws
 pub mod PlacedWords
-pub mod Laid
 pub mod Formed
+pub mod StepNumbers
+pub mod Laid
 pub mod Underfull
 pub mod FormedAtRest
 pub mod RegroupEnds

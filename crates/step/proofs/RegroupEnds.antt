@@ -37,10 +37,11 @@ pub kept-but-slot : (layout : Layout) (slot : ℕ) (before after : List ℕ) →
 kept-but-slot layout slot before after below only =
     record { long = only .long; head = take-less 6 8 before after (omega arith) (only .head); past = only .past (layout .slots) below }
 
--- word 7 is behind them
-pub front-kept : (v : ℕ) (before after : List ℕ) → take 8 after ≡ set (take 8 before) 7 v → take 6 after ≡ take 6 before
-front-kept v before after e =
-    sym (take-take 6 8 after (omega arith)) ∙ ap (take 6) e ∙ take-set-le 6 (take 8 before) 7 v (omega arith) ∙ take-take 6 8 before (omega arith)
+-- words 6 and 7 are behind them
+pub front-kept : (v w : ℕ) (before after : List ℕ) → take 8 after ≡ set (set (take 8 before) 7 v) 6 w → take 6 after ≡ take 6 before
+front-kept v w before after e =
+    sym (take-take 6 8 after (omega arith)) ∙ ap (take 6) e ∙ take-set-le 6 (set (take 8 before) 7 v) 6 w (omega arith) ∙ take-set-le 6 (take 8 before) 7 v (omega arith)
+    ∙ take-take 6 8 before (omega arith)
 
 module _ {σ : Setting} {layout : Layout} {before : List ℕ} {way : List Frame} {slot outer code : ℕ} {es : Placed} {free : List ℕ} {j first n d : ℕ}
     (layout-is : layout ≡ σ .layout) (d-is : d ≡ blockCode j (σ .x)) (h : Laid σ before way slot outer code es free) (g : FormedAt (σ .k) outer code (σ .x) j first n es) where

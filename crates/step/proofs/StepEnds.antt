@@ -37,10 +37,10 @@ use Rattle.step.proofs.Laid.{can-splice, laid-by-splice, right-as-it-is
 use Rattle.step.proofs.Underfull.{up-with-all}
 
 -- what a release, and one change after another, keep
-kept-by-release : {layout : Layout} {slot : ℕ} {before after : List ℕ} → slot < layout .slots → Released (layout .width) slot before after → Kept layout before after
-kept-by-release {layout} {slot} {before} {after} below freed = record {
+kept-by-release : {layout : Layout} {slot held : ℕ} {before after : List ℕ} → slot < layout .slots → Released (layout .width) slot held before after → Kept layout before after
+kept-by-release {layout} {slot} {held} {before} {after} below freed = record {
   long = freed .long;
-  head = front-kept slot before after (freed .head);
+  head = front-kept slot held before after (freed .head);
   past = freed .past (layout .slots) below;
 }
 
@@ -135,10 +135,10 @@ enough code i f (inr h) = inr (omega (arith, i .k-is))
 
 -- below the root an underfull block hands all up
 up-below-root : {σ : Setting} {words : List ℕ} (way : List Frame) {s level code : ℕ} {es : Placed} {free after scratch scratch′ : List ℕ} {n : ℕ} → (way ≡ [] → ⊥)
-    → Laid σ words way s level code es free → LocallyRight (σ .k) level code es → size es < σ .k
+    → LayoutFits (σ .layout) words → Laid σ words way s level code es free → LocallyRight (σ .k) level code es → size es < σ .k
     → HandedUpAll (σ .layout) s words after scratch scratch′ n → SteppedRight σ after scratch′ way s (Up n)
-up-below-root [] ne h right few u = ne refl
-up-below-root (f ∷ way) ne h right few u = up-with-all h right few u
+up-below-root [] ne fits h right few u = ne refl
+up-below-root (f ∷ way) ne fits h right few u = up-with-all h fits right few u
 
 -- on a register's words the splice is never refused
 pub never-refused : {change : Change} {root : Bool} {slot place removed inserted : ℕ} {before after scratch : List ℕ} → CanPut (change .layout) before slot place removed inserted scratch
@@ -184,7 +184,7 @@ module _ {change : Change} {root : Bool} {slot place removed inserted count : �
         (subst (λ (n : ℕ). (root ≡ true) ⊎ (change .k ≤ n)) (sym (count-then can put) ∙ count-says i h) e))))
     at-rest-or-deinstantiated {after} {scratch′} (Up n) k-to (e, few, u) =
         stepped (kept-by-release (can .slot-below) (u .freed)) (omega (arith, u .rest-is, count-then can put)) (u .long)
-        (λ σ way level code es free i h s. up-below-root way (i .root-is .1 e) h (right-then σ way level code es free i h s)
+        (λ σ way level code es free i h s. up-below-root way (i .root-is .1 e) (subst (λ (l : Layout). LayoutFits l mid) (i .layout-is) (fits-then can put)) h (right-then σ way level code es free i h s)
         (omega (arith, count-then can put, count-says i h, i .k-is)) (subst (λ (l : Layout). HandedUpAll l slot mid after scratch scratch′ n) (i .layout-is) u))
     at-rest-or-deinstantiated Damaged k-to bad = absurd bad
 

@@ -8,10 +8,12 @@ use Rattle.store.specs.Element.{tagSlots}
 use Rattle.pktree.specs.Elements.{size}
 use Rattle.pktree.proofs.Alignment.{blockCode}
 use Rattle.pktree.proofs.Arranged.{LocallyRight}
+use Rattle.measures.specs.Layout.{LayoutFits}
 use Rattle.measures.specs.Slot.{slotPart}
 use Rattle.store.specs.Placed.{Placed, slotsOf}
 use Rattle.store.proofs.Standing.{SlotSays, frame}
 use Rattle.store.proofs.FreeChains.{occurrences-join}
+use Rattle.store.proofs.SlotsLeft.{left-kept, left-released}
 use Rattle.descent.specs.Way.{Frame}
 use Rattle.rewrite.specs.Rewrite.{SlotNow, HandedUpBlock, HandedUpAll}
 use Rattle.rewrite.proofs.SlotNows.{says-now, now-says}
@@ -20,9 +22,10 @@ use Rattle.ascent.proofs.Pending.{Setting, widthIn, Laid}
 use Rattle.ascent.proofs.FormedAt.{FormedAt}
 use Rattle.step.specs.Step.{PendingAbove}
 use Rattle.ascent.proofs.FramesStand.{frames-kept}
-use Rattle.ascent.proofs.Around.{others-agree, way-elsewhere, elements-elsewhere, free-elsewhere, around-kept}
+use Rattle.ascent.proofs.Around.{others-agree, slot-once, way-elsewhere, elements-elsewhere, free-elsewhere}
 use Rattle.step.proofs.Laid.{sizes}
 use Rattle.ascent.proofs.HandUp.{LeftOver, handed-up}
+use Rattle.step.proofs.StepNumbers.{numbered-by-release, numbered-by-hand-up}
 use Rattle.step.proofs.Formed.{formedAs, formed-pixels, formed-size, slots-and-block, run-words, with-block-words, block-stands}
 
 module _ {σ : Setting} {words : List ℕ} {f : Frame} {way : List Frame} {s level code : ℕ} {es : Placed} {free : List ℕ} (h : Laid σ words (f ∷ way) s level code es free) where
@@ -32,9 +35,9 @@ module _ {σ : Setting} {words : List ℕ} {f : Frame} {way : List Frame} {s lev
   has-some (inr n) = n
 
   -- it forms none
-  pub up-with-all : {after scratch scratch′ : List ℕ} {r : ℕ} → LocallyRight (σ .k) level code es → size es < σ .k
+  pub up-with-all : {after scratch scratch′ : List ℕ} {r : ℕ} → LayoutFits (σ .layout) words → LocallyRight (σ .k) level code es → size es < σ .k
       → HandedUpAll (σ .layout) s words after scratch scratch′ r → PendingAbove σ after scratch′ f way s r
-  up-with-all {after} right few u =
+  up-with-all {after} fits right few u =
       let o = h .around in
       let same = others-agree (widthIn σ) s words after (u .freed .others) in
       let left-over : LeftOver σ after f way s level code es es free (s ∷ free) = record {
@@ -44,7 +47,7 @@ module _ {σ : Setting} {words : List ℕ} {f : Frame} {way : List Frame} {s lev
         same-pixels = refl;
         frames-stand = frames-kept (widthIn σ) words after (f ∷ way) s level code (same (waySlots (f ∷ way)) (way-elsewhere o)) (o .frames-stand);
         stands = frame (widthIn σ) words after es (same (slotsOf es) (elements-elsewhere o)) (o .stands);
-        free-chain = u .freed .chain free (free-elsewhere o) (o .free-chain);
+        free-chain = left-released (omega (arith, fits .lies)) (u .freed) (o .shared) (omega arith) (omega (arith, slot-once o)) (o .free-chain);
         counts = λ t. omega (
           arith,
           occurrences-join t (slotsOf es) (s ∷ free),
@@ -52,6 +55,7 @@ module _ {σ : Setting} {words : List ℕ} {f : Frame} {way : List Frame} {s lev
           occurrences-join t (s ∷ slotsOf es) free,
           occurrences-join t (s ∷ []) (slotsOf es),
         );
+        numbered = numbered-by-release (o .numbered) (u .freed);
       } in
       record {
         level = level;
@@ -79,7 +83,7 @@ module _ {σ : Setting} {words : List ℕ} {f : Frame} {way : List Frame} {s lev
         same-pixels = formed-pixels g s;
         frames-stand = frames-kept (widthIn σ) words after (f ∷ way) s level code (same (waySlots (f ∷ way)) (way-elsewhere o)) (o .frames-stand);
         stands = block-stands g (widthIn σ) words after s (same (slotsOf es) (elements-elsewhere o)) (o .stands) small says;
-        free-chain = around-kept o (u .only) .free-chain;
+        free-chain = left-kept (u .only .head) (same free (free-elsewhere o)) (o .free-chain);
         counts = λ t. omega (
           arith,
           occurrences-join t (slotsOf (formedAs g s)) free,
@@ -87,6 +91,7 @@ module _ {σ : Setting} {words : List ℕ} {f : Frame} {way : List Frame} {s lev
           occurrences-join t (s ∷ slotsOf es) free,
           occurrences-join t (s ∷ []) (slotsOf es),
         );
+        numbered = numbered-by-hand-up h g u;
       } in
       record {
         level = level;

@@ -9,18 +9,21 @@ use lib.Seq.{getD-drop, getD-take, getD-append-add}
 use Rattle.pktree.specs.Lists.{Every}
 use Rattle.pktree.specs.Panel.{Aligned}
 use Rattle.pktree.specs.Elements.{ForestOf, empty, pixel, _⧺_, size, blockAt}
+use Rattle.pktree.specs.Tree.{pixels}
 use Rattle.pktree.proofs.Alignment.{aligned-root}
 use Rattle.pktree.proofs.Arranged.{Arranged, LocallyRight, arranged-le}
 use Rattle.pktree.proofs.Forests.{size-join}
 use Rattle.store.specs.declared.elements.Element.the-variants.{Pixel, Block}
 use Rattle.measures.specs.Sizes.{slotCount, slotWidth, sizesOf}
-use Rattle.measures.specs.Slot.{slotPart, elementPart, elementIndex, slotHead}
+use Rattle.measures.specs.Slot.{slotPart, elementPart, elementIndex, slotHead, numberWord}
 use Rattle.store.specs.Element.{elementOf, elementAt, tagSlots}
 use Rattle.store.specs.Placed.{Placed, slotsOf}
+use Rattle.store.specs.Numbers.{Numbered}
 use Rattle.store.specs.Sound.{Sound}
 use Rattle.store.proofs.Standing.{elementWords, SlotSays, Stands, every-left, every-right}
 use Rattle.store.proofs.PlacedJoin.{slots-join, words-join, length-element-words, stands-parts}
 use Rattle.store.proofs.SoundView.{SoundView}
+use Rattle.store.proofs.BlockNumbers.{TreeNumbers, tree-numbers-parts, own-whole, block-number, tree-numbered}
 
 -- element i of some elements
 pub data SplitAt (es : Placed) (i : ℕ) : Type 0 where
@@ -93,6 +96,9 @@ pub record BlockView (k width slots : ℕ) (words : List ℕ) (slot level code :
   pub level-to : level ≤ 16
   pub ends : code + 4 ^ level ≤ 4 ^ 16
   pub inside : Every (λ s. s < slots) (slotsOf es)
+  -- its number is that of its pixels, and so inside it
+  pub number : numberWord (slotPart width words slot) ≡ length (pixels es)
+  pub numbers : TreeNumbers width words es
 
 -- what an arranged block among elements is
 pub record ArrangedBlock {A : Type 0} (k n from to i c : ℕ) (fs : ForestOf A) : Type 0 where
@@ -138,6 +144,7 @@ child-view k width slots words slot level code es a s i c fs b v e =
     let r = arranged-block s k level code (code + 4 ^ level) i c a fs b
     (subst (Arranged k level code (code + 4 ^ level)) e (v .right .arranged)) in
     let h = stands-parts width words a (blockAt s i c fs b) (subst (Stands width words) e (v .stands)) .1 in
+    let m = tree-numbers-parts width words a (blockAt s i c fs b) (subst (TreeNumbers width words) e (v .numbers)) .1 in
     let l : Every (λ t. t < slots) (slotsOf (blockAt s i c fs b)) =
     every-right _ (slotsOf a) (slotsOf (blockAt s i c fs b))
     (subst (Every (λ t. t < slots)) (ap slotsOf e ∙ slots-join a (blockAt s i c fs b)) (v .inside)) in
@@ -152,6 +159,8 @@ child-view k width slots words slot level code es a s i c fs b v e =
         level-to = omega (arith, r .below, v .level-to);
         ends = le-trans (r .ends) (v .ends);
         inside = every-left _ (slotsOf fs) (slotsOf b) (l .1);
+        number = m .0;
+        numbers = m .1;
       };
       small = h .0;
       below = r .below;
@@ -164,6 +173,9 @@ child-view k width slots words slot level code es a s i c fs b v e =
 pub root-view : (words : List ℕ) (placed es : Placed) → Sound words placed → SoundView words placed es
     → BlockView (sizesOf words .k) (slotWidth (sizesOf words .k)) (slotCount (sizesOf words .k) (sizesOf words .most)) words 0 (sizesOf words .order) 0 es
 root-view words placed es sound v =
+    let k : ℕ = sizesOf words .k in
+    let order : ℕ = sizesOf words .order in
+    let numbered = subst (Numbered (slotWidth k) (slotCount k (sizesOf words .most)) words) (v .same-pixels) (sound .numbered) in
     record {
       slot-below = omega (arith, v .few);
       says = v .says;
@@ -174,4 +186,6 @@ root-view words placed es sound v =
       level-to = sound .usable .valid .panel .order-to;
       ends = le-trans (omega arith) (pow-le-pow-right {n = 4} (omega arith) (sound .usable .valid .panel .order-to));
       inside = v .inside;
+      number = block-number k (v .says) (own-whole 0 (0 + 4 ^ order) es) refl (v .right .arranged) (sound .usable .valid .panel .order-from) (numbered .each 0 (omega (arith, v .few)));
+      numbers = tree-numbered k (slotWidth k) words order es numbered (own-whole 0 (0 + 4 ^ order) es) (v .right .arranged) (v .stands) (v .inside);
     }

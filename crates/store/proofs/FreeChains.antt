@@ -8,17 +8,17 @@ use mathlib.Core.Bool.{Bool, true, false, cond}
 use mathlib.Core.Logic.{_⊎_, inl, inr}
 use mathlib.Core.List.{List, [], _∷_, _++_}
 use lib.Dec.{eqb}
-use lib.ListN.{length, set, length-set}
+use lib.ListN.{length, take, set, length-set}
 use lib.Seq.{getD-set-same, getD-set-other}
 use borrow.Author.Tests.{eq-eqb, ne-eqb}
 use Rattle.pktree.specs.Lists.{Every, select}
-use Rattle.measures.specs.Words.{headWords, firstFreeWord, firstFreeIndex}
+use Rattle.measures.specs.Words.{headWords, blocksWord, blocksIndex, firstFreeWord, firstFreeIndex}
 use Rattle.measures.specs.declared.sizes.Layout.{Layout}
 use Rattle.store.specs.declared.free.FreeSlot.the-variants.{Taken, Missing}
 use Rattle.measures.specs.Layout.{LayoutFits}
-use Rattle.measures.specs.Slot.{slotPart, nextWord, Within, nextIndex, slotHead}
+use Rattle.measures.specs.Slot.{slotPart, levelWord, nextWord, Within, nextIndex, slotHead}
 use Rattle.store.specs.FreeSlots.{noSlot, FreeChain, FreeSlots, occurrences, TookFree, Released}
-use Rattle.measures.proofs.SlotWrites.{HeadWritten, head-word-set, slot-word-set, slot-length}
+use Rattle.measures.proofs.SlotWrites.{HeadWritten, head-word-set, head-written-then, slot-word-set, slot-length}
 
 -- what follows for every slot
 pub every-map : (P Q : ℕ → Type 0) (l : List ℕ) → ((s : ℕ) → P s → Q s) → Every P l → Every Q l
@@ -103,12 +103,22 @@ absent s (t ∷ l) h = go (ℕ-discrete t s) (absent s l)
     go (yes e) f = absurd (omega (arith, rw e at h, occurrences-same s l))
     go (no ne) f = (ne, f (sym (occurrences-other s t l ne) ∙ h))
 
--- what taking the first free slot leaves: the rest of the chain, and all slots as they were
+-- the first words after a slot is taken
+abbrev pub headTaken : Layout → ℕ → List ℕ → List ℕ
+headTaken layout slot before = set (set (take headWords before) firstFreeIndex (nextWord (slotPart (layout .width) before slot))) blocksIndex (blocksWord before + 1)
+
+pub head-taken : {layout : Layout} {slot : ℕ} {before after : List ℕ} → TookFree layout before after (Taken slot) → HeadWritten (layout .width) (headTaken layout slot before) before after
+head-taken {layout} {slot} {before} took =
+    rw (took .4) (head-written-then blocksIndex (blocksWord before + 1) (omega arith)
+    (head-word-set (layout .width) before firstFreeIndex (nextWord (slotPart (layout .width) before slot)) (omega arith)))
+
+-- what taking the first free slot leaves: the rest of the chain, one block more, and all slots as they were
 pub record FirstTaken (layout : Layout) (slot : ℕ) (free before after : List ℕ) : Type 0 where
   pub rest : List ℕ
   pub is : free ≡ slot ∷ rest
   pub chain : FreeSlots (layout .width) after rest
-  pub written : HeadWritten (layout .width) firstFreeIndex (nextWord (slotPart (layout .width) before slot)) before after
+  pub counted : blocksWord after ≡ blocksWord before + 1
+  pub written : HeadWritten (layout .width) (headTaken layout slot before) before after
 
 pub first-taken : (layout : Layout) (slot : ℕ) (free before after : List ℕ) → LayoutFits layout before → TookFree layout before after (Taken slot)
     → FreeSlots (layout .width) before free → FirstTaken layout slot free before after
@@ -116,31 +126,40 @@ first-taken layout slot [] before after fits took c = absurd (omega (arith, fits
 first-taken layout slot (t ∷ free) before after fits took c =
     let width : ℕ = layout .width in
     let next : ℕ = nextWord (slotPart width before slot) in
-    let w : HeadWritten width firstFreeIndex next before (set before firstFreeIndex next) = head-word-set width before firstFreeIndex next (omega arith) in
+    let w = head-taken took in
     let e : t ≡ slot = sym (c .0) ∙ sym (took .0) in
-    let first : firstFreeWord (set before firstFreeIndex next) ≡ next = getD-set-same before firstFreeIndex next 0 (omega (arith, fits .lies)) in
+    let mid : List ℕ = set before firstFreeIndex next in
+    let first : firstFreeWord after ≡ next =
+    ap firstFreeWord (took .4) ∙ getD-set-other mid blocksIndex firstFreeIndex (blocksWord before + 1) 0 (λ z. omega arith)
+    ∙ getD-set-same before firstFreeIndex next 0 (omega (arith, fits .lies)) in
     let r : FreeChain width before next free = rw e at (c .2) in
-    let k : FreeChain width (set before firstFreeIndex next) next free =
-    chain-kept width before (set before firstFreeIndex next) next free (every-of-all _ free (λ s. sym (w .slots s))) r in
-    rw (took .3) (record { rest = free; is = rw e; chain = rw first k; written = w })
+    let k : FreeChain width after next free = chain-kept width before after next free (every-of-all _ free (λ s. sym (w .slots s))) r in
+    record {
+      rest = free;
+      is = rw e;
+      chain = rw first k;
+      counted = ap blocksWord (took .4) ∙ getD-set-same mid blocksIndex (blocksWord before + 1) 0 (omega (arith, fits .lies, length-set before firstFreeIndex next));
+      written = w;
+    }
 
--- where none was to be taken, none is free
+-- where none was to be taken and fewer blocks are held than there are slots, none is free
 pub none-free : (layout : Layout) (free before after : List ℕ) → Every (λ s. s < layout .slots) free → TookFree layout before after Missing
-    → FreeSlots (layout .width) before free → free ≡ []
-none-free layout [] before after inside took c = refl
-none-free layout (s ∷ free) before after inside took c = absurd (took .1 (omega arith) (rw (c .0) (c .1)))
+    → FreeSlots (layout .width) before free → blocksWord before + length free ≡ layout .slots → free ≡ []
+none-free layout [] before after inside took c left = refl
+none-free layout (s ∷ free) before after inside took c left = absurd (took .1 (omega arith) (rw (c .0) (c .1)) (omega arith))
 
 -- what `release` writes marks the slot free and puts it before the chain
-pub slot-released : (width slot at : ℕ) (words : List ℕ) → slotHead ≤ width → Within width words slot → at ≡ headWords + slot * width
-    → Released width slot words (set (set (set words at 0) (at + nextIndex) (firstFreeWord (set words at 0))) firstFreeIndex slot)
-slot-released width slot at words wide within e =
+pub slot-released : (width slot at held : ℕ) (words : List ℕ) → slotHead ≤ width → Within width words slot → at ≡ headWords + slot * width
+    → Released width slot held words (set (set (set (set words at 0) (at + nextIndex) (firstFreeWord (set words at 0))) firstFreeIndex slot) blocksIndex held)
+slot-released width slot at held words wide within e =
     let next : ℕ = firstFreeWord (set words at 0) in
     let marked : List ℕ = set words at 0 in
     let linked : List ℕ = set marked (at + nextIndex) next in
-    let after : List ℕ = set linked firstFreeIndex slot in
+    let named : List ℕ = set linked firstFreeIndex slot in
+    let after : List ℕ = set named blocksIndex held in
     let m = slot-word-set width slot words at 0 0 (omega arith) (omega arith) in
     let n = slot-word-set width slot marked (at + nextIndex) 3 next (omega arith) (omega arith) in
-    let h = head-word-set width linked firstFreeIndex slot (omega arith) in
+    let h = head-written-then blocksIndex held (omega arith) (head-word-set width linked firstFreeIndex slot (omega arith)) in
     let long : length linked ≡ length words = n .only .long ∙ m .only .long in
     let others : (other : ℕ) → (other ≡ slot → ⊥) → slotPart width after other ≡ slotPart width words other =
     λ other ne. h .slots other ∙ n .only .others other ne ∙ m .only .others other ne in
@@ -149,13 +168,16 @@ slot-released width slot at words wide within e =
     let p : List ℕ = slotPart width words slot in
     let w : length p ≡ width = slot-length width slot words within in
     let first : next ≡ firstFreeWord words = getD-set-other words at firstFreeIndex 0 0 (λ z. omega arith) in
+    let freed : levelWord (slotPart width after slot) ≡ 0 =
+    rw self (getD-set-other (set p 0 0) 3 0 next 0 (λ z. omega arith) ∙ getD-set-same p 0 0 0 (omega arith)) in
     record {
       long = h .long ∙ long;
-      head = h .head ∙ ap (λ (l : List ℕ). set l firstFreeIndex slot) (n .only .head ∙ m .only .head);
+      head = h .head-is ∙ ap (λ (l : List ℕ). set (set l firstFreeIndex slot) blocksIndex held) (n .only .head ∙ m .only .head);
       others = others;
+      freed = freed;
       chain = λ free out c. (
-        getD-set-same linked firstFreeIndex slot 0 (omega arith),
-        rw self (getD-set-other (set p 0 0) 3 0 next 0 (λ z. omega arith) ∙ getD-set-same p 0 0 0 (omega arith)),
+        getD-set-other named blocksIndex firstFreeIndex held 0 (λ z. omega arith) ∙ getD-set-same linked firstFreeIndex slot 0 (omega arith),
+        freed,
         rw (self, getD-set-same (set p 0 0) 3 next 0 (omega (arith, length-set p 0 0)))
             (chain-kept width words after next free (every-map _ _ free (λ s ne. sym (others s ne)) out) (rw first c)),
       );
@@ -163,6 +185,6 @@ slot-released width slot at words wide within e =
     }
 
 -- what releasing a slot leaves of a chain that it is not in
-pub chain-released : (width slot : ℕ) (free before after : List ℕ) → Released width slot before after → occurrences slot free ≡ 0
+pub chain-released : (width slot : ℕ) {held : ℕ} (free before after : List ℕ) → Released width slot held before after → occurrences slot free ≡ 0
     → FreeSlots width before free → FreeSlots width after (slot ∷ free)
 chain-released width slot free before after r h c = r .chain free (absent slot free h) c

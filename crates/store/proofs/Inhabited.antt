@@ -9,7 +9,9 @@ use Rattle.pktree.specs.Elements.{gather, blockAt, empty, pixel}
 use Rattle.measures.specs.Slot.{slotPart}
 use Rattle.store.specs.Placed.{Placed}
 use Rattle.store.specs.Reading.{readSlot}
-use Rattle.store.specs.Sound.{Sound, Holds}
+use Rattle.store.specs.FreeSlots.{FreeSlots}
+use Rattle.store.specs.Sound.{SlotsShared, Sound, Holds}
+use Rattle.store.proofs.BlockNumbers.{numbered-by-used}
 use Rattle.store.proofs.FreedSlots.{numbers-once, numbers-inside}
 
 -- a free slot
@@ -19,9 +21,9 @@ freeSlot next = (0 ∷ 0 ∷ 0 ∷ next ∷ []) ++ replicate 24 0
 -- the block 3/0 in slot 0, the block 1/0 in slot 1, and slots 2, 3, 4 free
 abbrev pub sampleWords : List ℕ
 sampleWords =
-    (0x504B0001 ∷ 3 ∷ 3 ∷ 9 ∷ 0 ∷ 0 ∷ 4 ∷ 2 ∷ [])
-    ++ ((3 ∷ 0 ∷ 2 ∷ 0 ∷ 0 ∷ 0 ∷ 0 ∷ 0 ∷ 0 ∷ 1048578 ∷ 60 ∷ 0 ∷ []) ++ replicate 16 0)
-    ++ ((1 ∷ 0 ∷ 3 ∷ 0 ∷ 0 ∷ 0 ∷ 0 ∷ 0 ∷ 0 ∷ 0 ∷ 1 ∷ 0 ∷ 2 ∷ 0 ∷ []) ++ replicate 14 0)
+    (0x504B0001 ∷ 3 ∷ 3 ∷ 9 ∷ 0 ∷ 0 ∷ 2 ∷ 2 ∷ [])
+    ++ ((3 ∷ 0 ∷ 2 ∷ 0 ∷ 4 ∷ 0 ∷ 0 ∷ 0 ∷ 0 ∷ 1048578 ∷ 60 ∷ 0 ∷ []) ++ replicate 16 0)
+    ++ ((1 ∷ 0 ∷ 3 ∷ 0 ∷ 3 ∷ 0 ∷ 0 ∷ 0 ∷ 0 ∷ 0 ∷ 1 ∷ 0 ∷ 2 ∷ 0 ∷ []) ++ replicate 14 0)
     ++ freeSlot 3
     ++ freeSlot 4
     ++ freeSlot 0xFFFFFFFF
@@ -32,6 +34,8 @@ samplePlaced = blockAt 0 3 0 (blockAt 1 1 0 (pixel 0 (pixel 1 (pixel 2 empty))) 
 pub sample-is-sound : Sound sampleWords samplePlaced
 unfolding gather readSlot slotPart
 sample-is-sound =
+    let chain : FreeSlots 28 sampleWords (2 ∷ 3 ∷ 4 ∷ []) = (refl, refl, (refl, refl, (refl, refl, refl))) in
+    let shared : SlotsShared 5 (0 ∷ 1 ∷ []) (2 ∷ 3 ∷ 4 ∷ []) = record { once = λ s h. numbers-once s 0 5 (omega arith) h; inside = numbers-inside 0 5 5 (omega arith) } in
     record {
       usable = record {
         long = omega arith;
@@ -47,9 +51,10 @@ sample-is-sound =
       is-tree = refl;
       fits = omega arith;
       free = 2 ∷ 3 ∷ 4 ∷ [];
-      chain = (refl, refl, (refl, refl, (refl, refl, refl)));
-      shared = record { once = λ s h. numbers-once s 0 5 (omega arith) h; inside = numbers-inside 0 5 5 (omega arith) };
+      chain = chain;
+      shared = shared;
       counted = refl;
+      numbered = numbered-by-used 28 5 sampleWords (0 ∷ 1 ∷ 2 ∷ 60 ∷ []) (0 ∷ 1 ∷ []) (2 ∷ 3 ∷ 4 ∷ []) shared chain ((λ one. refl), ((λ one. refl), tt));
     }
 
 pub sample-holds : Holds sampleWords (0 ∷ 1 ∷ 2 ∷ 60 ∷ [])

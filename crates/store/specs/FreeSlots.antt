@@ -5,7 +5,7 @@ use mathlib.Core.List.{List, [], _∷_}
 use lib.Dec.{eqb}
 use lib.ListN.{length, take, drop, set}
 use Rattle.pktree.specs.Lists.{Every, select}
-use Rattle.measures.specs.Words.{headWords, firstFreeWord, firstFreeIndex}
+use Rattle.measures.specs.Words.{headWords, blocksWord, blocksIndex, firstFreeWord, firstFreeIndex}
 use Rattle.measures.specs.declared.sizes.Layout.{Layout}
 use Rattle.measures.specs.Layout.{storeEnd}
 use Rattle.store.specs.declared.free.FreeSlot.{FreeSlot}
@@ -28,19 +28,22 @@ FreeSlots width words free = FreeChain width words (firstFreeWord words) free
 abbrev pub occurrences : ℕ → List ℕ → ℕ
 occurrences slot l = length (select (λ s. eqb s slot) l)
 
--- what taking the first free slot does: word 7 names the next; or it names no free slot, and nothing changed
+-- what taking the first free slot does: word 7 names the next, and word 6 counts one block more; or word 7 names no free slot or word 6 as
+-- many blocks as there are slots, and nothing changed
 abbrev pub TookFree : Layout → List ℕ → List ℕ → FreeSlot → Type 0
 TookFree layout before after (Taken s) =
-    (s ≡ firstFreeWord before) × (s < layout .slots) × (levelWord (slotPart (layout .width) before s) ≡ 0)
-    × (after ≡ set before firstFreeIndex (nextWord (slotPart (layout .width) before s)))
+    (s ≡ firstFreeWord before) × (s < layout .slots) × (levelWord (slotPart (layout .width) before s) ≡ 0) × (blocksWord before < layout .slots)
+    × (after ≡ set (set before firstFreeIndex (nextWord (slotPart (layout .width) before s))) blocksIndex (blocksWord before + 1))
 TookFree layout before after Missing =
-    (after ≡ before) × (firstFreeWord before < layout .slots → levelWord (slotPart (layout .width) before (firstFreeWord before)) ≡ 0 → ⊥)
+    (after ≡ before)
+    × (firstFreeWord before < layout .slots → levelWord (slotPart (layout .width) before (firstFreeWord before)) ≡ 0 → blocksWord before < layout .slots → ⊥)
 
--- a slot put before the chain: word 7 and words 0 and 3 of the slot changed
-pub record Released (width slot : ℕ) (before after : List ℕ) : Type 0 where
+-- a slot put before the chain: word 7 and words 0 and 3 of the slot changed, and so many blocks are held then
+pub record Released (width slot held : ℕ) (before after : List ℕ) : Type 0 where
   pub long : length after ≡ length before
-  pub head : take headWords after ≡ set (take headWords before) firstFreeIndex slot
+  pub head : take headWords after ≡ set (set (take headWords before) firstFreeIndex slot) blocksIndex held
   pub others : (other : ℕ) → (other ≡ slot → ⊥) → slotPart width after other ≡ slotPart width before other
+  pub freed : levelWord (slotPart width after slot) ≡ 0
   pub chain : (free : List ℕ) → Every (λ s. s ≡ slot → ⊥) free → FreeSlots width before free → FreeSlots width after (slot ∷ free)
   pub past : (n : ℕ) → slot < n → drop (headWords + n * width) after ≡ drop (headWords + n * width) before
 
@@ -49,10 +52,11 @@ abbrev pub numbersFrom : ℕ → ℕ → List ℕ
 numbersFrom first zero = []
 numbersFrom first (suc n) = first ∷ numbersFrom (suc first) n
 
--- the slots from `first` on are free; those before it and words 0 to 6 are as they were
+-- the slots from `first` on are free and the others counted as blocks; those and words 0 to 5 are as they were
 pub record FreeFrom (layout : Layout) (first : ℕ) (before after : List ℕ) : Type 0 where
   pub long : length after ≡ length before
-  pub head : take firstFreeIndex after ≡ take firstFreeIndex before
+  pub head : take blocksIndex after ≡ take blocksIndex before
   pub kept : (s : ℕ) → s < first → slotPart (layout .width) after s ≡ slotPart (layout .width) before s
+  pub counted : blocksWord after ≡ first
   pub chain : FreeSlots (layout .width) after (numbersFrom first (layout .slots - first))
   pub past : drop (storeEnd layout) after ≡ drop (storeEnd layout) before

@@ -4,4 +4,5 @@ pub mod Opening
 pub mod Placed
 pub mod Reading
 pub mod FreeSlots
+pub mod Numbers
 pub mod Sound

@@ -7,11 +7,12 @@ use lib.ListN.{length}
 use Rattle.pktree.specs.Lists.{Every}
 use Rattle.pktree.specs.PixelSet.{member}
 use Rattle.pktree.specs.Tree.{tree, pixels}
-use Rattle.measures.specs.Words.{pixelsWord}
+use Rattle.measures.specs.Words.{blocksWord}
 use Rattle.measures.specs.Sizes.{panelOf, slotCount, slotWidth, sizesOf, UsableStore}
 use Rattle.store.specs.Placed.{Placed, slotsOf}
 use Rattle.store.specs.Reading.{treeOf}
 use Rattle.store.specs.FreeSlots.{FreeSlots, occurrences}
+use Rattle.store.specs.Numbers.{Numbered}
 use Rattle.pktree.specs.Elements.{unlabelled}
 
 -- every slot is in the tree or free, and only once; none is beyond the last
@@ -30,8 +31,10 @@ pub record Sound (words : List ℕ) (placed : Placed) : Type 0 where
   pub free : List ℕ
   pub chain : FreeSlots (slotWidth (sizesOf words .k)) words free
   pub shared : SlotsShared (slotCount (sizesOf words .k) (sizesOf words .most)) (slotsOf placed) free
-  -- word 6 is the number of pixels
-  pub counted : pixelsWord words ≡ length (pixels placed)
+  -- word 6 is the number of blocks
+  pub counted : blocksWord words ≡ length (slotsOf placed)
+  -- 02, P6: every block carries the number of marked pixels beneath it
+  pub numbered : Numbered (slotWidth (sizesOf words .k)) (slotCount (sizesOf words .k) (sizesOf words .most)) words (pixels placed)
 
 -- a sound store that holds this set of pixels
 pub record Holds (words set : List ℕ) : Type 0 where

@@ -4,7 +4,7 @@ use mathlib.Core.Path.{_≡_}
 use mathlib.Core.List.{List, _++_}
 use lib.ListN.{length, getD, take, drop, set}
 use Rattle.measures.specs.Layout.{widestSlot}
-use Rattle.measures.specs.Slot.{countWord, elementPart, elementIndex, levelIndex, codeIndex, countIndex, slotHead}
+use Rattle.measures.specs.Slot.{countWord, elementPart, elementIndex, levelIndex, codeIndex, countIndex, numberIndex, slotHead}
 
 -- the code of element i
 abbrev pub codeAt : List ℕ → ℕ → ℕ
@@ -33,5 +33,5 @@ pub record Spliced (part source : List ℕ) (place removed inserted : ℕ) (afte
   pub header : take slotHead after ≡ set (take slotHead part) countIndex (countWord part - removed + inserted)
   pub long : length after ≡ length part
 
-abbrev pub withHeader : List ℕ → ℕ → ℕ → ℕ → List ℕ
-withHeader part level code count = set (set (set part levelIndex level) codeIndex code) countIndex count
+abbrev pub withHeader : List ℕ → ℕ → ℕ → ℕ → ℕ → List ℕ
+withHeader part level code count number = set (set (set (set part levelIndex level) codeIndex code) countIndex count) numberIndex number

@@ -11,6 +11,7 @@ use measures::slots::COUNT;
 use measures::slots::ELEMENT_BEFORE;
 use measures::slots::LEVEL;
 use measures::slots::MOST_ELEMENT_WORDS;
+use measures::slots::NUMBER;
 use measures::slots::SLOT_HEAD;
 use measures::slots::wide;
 
@@ -99,11 +100,12 @@ pub fn splice(part: &mut [u32], place: usize, removed: usize, source: &[u32], in
     part[COUNT] = (count - removed + inserted) as u32;
 }
 
-pub fn write_header(part: &mut [u32], level: u32, code: u32, count: u32)
+pub fn write_header(part: &mut [u32], level: u32, code: u32, count: u32, number: u32)
     requires { ⌜ slotHead ≤ length (now part) ⌝ }
-    ensures { λ _. ⌜ now (part .exit) ≡ withHeader (now (part .entry)) level code count ⌝ }
+    ensures { λ _. ⌜ now (part .exit) ≡ withHeader (now (part .entry)) level code count number ⌝ }
 {
     part[LEVEL] = level;
     part[CODE] = code;
     part[COUNT] = count;
+    part[NUMBER] = number;
 }

@@ -2,3 +2,4 @@
 pub mod elements;
 pub mod free;
 pub mod opening;
+pub mod sums;

@@ -161,8 +161,8 @@ fn count(panel: Panel, window: Window, store: &[u32], set: &Set) -> Step {
 }
 
 fn list(seed: u32, panel: Panel, window: Window, store: &[u32], set: &Set) -> Step {
-    let counted = calls::count(panel, store.len(), window, set);
-    let room = draws::length_drawn(seed, 12, counted.first, 256, 2);
+    let whole = calls::list(panel, store.len(), window, set);
+    let room = draws::length_drawn(seed, 12, whole.first, 256, 2);
     let mut output = [7u32; 256];
     let got = numbers::of_listing(register::list(
         store,
@@ -172,7 +172,7 @@ fn list(seed: u32, panel: Panel, window: Window, store: &[u32], set: &Set) -> St
         window.y1,
         &mut output[..room],
     ));
-    let want = calls::with_output(counted, room);
+    let want = calls::with_output(whole, room);
     both(got, want, is_list(set, window, want.refusal == 0, &output))
 }
 

@@ -1,6 +1,7 @@
 -- A change begins: a pixel put between two elements of the smallest block that holds it, or taken out there, is pending in that block.
 use Prim.Native.Nat.{ℕ, zero, suc, _+_, _-_, _*_, _/_, _^_, _≤_, _<_}
 use native.Mathlib.Omega.{arith}
+use native.Mathlib.Decide.{decLt}
 use mathlib.Core.Path.{_≡_, refl, ap, subst, sym, _∙_}
 use mathlib.Core.Logic.{_⊎_, inl, inr}
 use mathlib.Core.List.{List, [], _∷_, _++_, append-assoc}
@@ -19,10 +20,13 @@ use Rattle.measures.specs.Layout.{layoutOf}
 use Rattle.measures.specs.Slot.{slotPart}
 use Rattle.store.specs.Placed.{Placed, slotsOf}
 use Rattle.store.specs.FreeSlots.{occurrences}
-use Rattle.store.specs.Sound.{Sound}
+use Rattle.store.specs.Numbers.{numberBetween}
+use Rattle.store.specs.Sound.{SlotsShared, Sound}
 use Rattle.store.proofs.Standing.{elementWords, SlotSays, Stands}
 use Rattle.store.proofs.PlacedJoin.{slots-join, stands-join, stands-parts}
 use Rattle.store.proofs.FreeChains.{occurrences-join}
+use Rattle.store.proofs.NumbersBetween.{number-inside, number-below, number-above, number-join}
+use Rattle.store.proofs.SlotsLeft.{slots-left}
 use Rattle.descent.specs.declared.Located.{Located}
 use Rattle.descent.specs.Way.{Frame, plug}
 use Rattle.descent.specs.Located.{LocatedIn}
@@ -31,8 +35,11 @@ use Rattle.ascent.proofs.Frames.{waySlots}
 use Rattle.ascent.proofs.SlotCounts.{plug-slots, shared-moves}
 use Rattle.ascent.proofs.HandUp.{right-size}
 use Rattle.ascent.proofs.Pending.{Setting}
-use Rattle.update.specs.Changed.{OnePixel, comes, goes, CountAllows}
 use Rattle.propagate.specs.Propagate.{PendingAt}
+use Rattle.update.specs.Changed.{OnePixel, comes, goes, CountAllows}
+use Rattle.update.specs.Renumber.{pathSlots, PathRenumbered}
+use Rattle.update.proofs.SameBlocks.{says-same, stands-same, frames-same, left-same}
+use Rattle.update.proofs.PathNumbers.{frameSlots, path-is, PixelChange, path-numbered}
 
 module _ (k c x : ℕ) (h : 2 ≤ k) (above : c ≤ x) where
   -- elements that are right are right but perhaps around x
@@ -88,6 +95,7 @@ settingOf words usable x target few =
       k-to = usable .valid .panel .k-to;
       m-to = usable .valid .panel .order-to;
       most-from = usable .valid .most-from;
+      most-to = usable .valid .most-to;
       few = few;
       width-is = refl;
       slots-is = refl;
@@ -120,12 +128,53 @@ pub record AtMostPixel (code n : ℕ) : Type 0 where
   pub slots : slotsOf (pixelsAt n code) ≡ []
   pub stands : (width : ℕ) (words : List ℕ) → Stands width words (pixelsAt n code)
   pub named : take (2 * n) (code ∷ 0 ∷ []) ≡ elementWords (pixelsAt n code)
+  pub inside : (from to : ℕ) → from ≤ code → code < to → numberBetween from to (pixels (pixelsAt n code)) ≡ n
+  pub outside : (from to : ℕ) → (code < from) ⊎ (to ≤ code) → numberBetween from to (pixels (pixelsAt n code)) ≡ 0
 
 no-pixel : (code : ℕ) → AtMostPixel code 0
-no-pixel code = record { one = omega arith; size-is = refl; count-is = refl; slots = refl; stands = λ width words. tt; named = refl }
+no-pixel code = record {
+  one = omega arith;
+  size-is = refl;
+  count-is = refl;
+  slots = refl;
+  stands = λ width words. tt;
+  named = refl;
+  inside = λ from to p q. refl;
+  outside = λ from to p. refl;
+}
 
 one-pixel : (code : ℕ) → AtMostPixel code 1
-one-pixel code = record { one = omega arith; size-is = refl; count-is = refl; slots = refl; stands = λ width words. tt; named = refl }
+one-pixel code =
+    record {
+      one = omega arith;
+      size-is = refl;
+      count-is = refl;
+      slots = refl;
+      stands = λ width words. tt;
+      named = refl;
+      inside = λ from to p q. number-inside from to code [] p q;
+      outside = λ from to p. beside from to (decLt code from) p;
+    }
+  where
+    beside : (from to : ℕ) → Dec (code < from) → (code < from) ⊎ (to ≤ code) → numberBetween from to (code ∷ []) ≡ 0
+    beside from to (yes q) p = number-below from to code [] q
+    beside from to (no q) (inl p) = absurd (q p)
+    beside from to (no q) (inr p) = number-above from to code [] (omega arith) p
+
+-- so the numbers of a set in which so many give way to so many differ by these
+pixel-changed : (code : ℕ) (l r : List ℕ) (out coming : ℕ) → AtMostPixel code out → AtMostPixel code coming
+    → PixelChange code (l ++ (pixels (pixelsAt out code) ++ r)) (l ++ (pixels (pixelsAt coming code) ++ r)) out coming
+pixel-changed code l r out coming o n =
+    record {
+      inside = λ from to p q. (
+        omega (arith, parts (pixelsAt out code) from to, o .inside from to p q),
+        omega (arith, parts (pixelsAt out code) from to, parts (pixelsAt coming code) from to, o .inside from to p q, n .inside from to p q),
+      );
+      outside = λ from to p. omega (arith, parts (pixelsAt out code) from to, parts (pixelsAt coming code) from to, o .outside from to p, n .outside from to p);
+    }
+  where
+    parts : (t : Placed) (from to : ℕ) → numberBetween from to (l ++ (pixels t ++ r)) ≡ numberBetween from to l + (numberBetween from to (pixels t) + numberBetween from to r)
+    parts t from to = number-join from to l (pixels t ++ r) ∙ ap (λ (i : ℕ). numberBetween from to l + i) (number-join from to (pixels t) r)
 
 pub at-most-pixel : {out coming : ℕ} (code : ℕ) → OnePixel out coming → AtMostPixel code out × AtMostPixel code coming
 at-most-pixel code comes = (no-pixel code, one-pixel code)
@@ -140,13 +189,13 @@ same-slots code a b out coming o n =
     slots-join a (new ⧺ b) ∙ ap (λ (l : List ℕ). slotsOf a ++ l) (slots-join new b ∙ ap (λ (l : List ℕ). l ++ slotsOf b) (n .slots ∙ sym (o .slots)) ∙ sym (slots-join old b))
     ∙ sym (slots-join a (old ⧺ b))
 
--- the change is pending: where so many pixels of the code stood in the set, so many are to stand
-pub record Begins (words : List ℕ) (usable : UsableStore words) (set : List ℕ) (code : ℕ) (slots places : List ℕ) (located : Located) (out coming : ℕ) : Type 0 where
+-- the numbers of the path are changed and the change is pending: where so many pixels of the code stood in the set, so many are to stand
+pub record Begins (words : List ℕ) (usable : UsableStore words) (mid set : List ℕ) (code : ℕ) (slots places : List ℕ) (located : Located) (out coming : ℕ) : Type 0 where
   pub left : List ℕ
   pub right : List ℕ
   pub set-was : set ≡ left ++ (pixels (pixelsAt out code) ++ right)
   pub few : length (left ++ (pixels (pixelsAt coming code) ++ right)) ≤ sizesOf words .most
-  pub pending : PendingAt (settingOf words usable code (left ++ (pixels (pixelsAt coming code) ++ right)) few) words slots places (located .depth) (located .slot) (located .place)
+  pub pending : PendingAt (settingOf words usable code (left ++ (pixels (pixelsAt coming code) ++ right)) few) mid slots places (located .depth) (located .slot) (located .place)
       out coming (code ∷ 0 ∷ [])
 
 module _ (words : List ℕ) (placed : Placed) (sound : Sound words placed) (code : ℕ) {slots places : List ℕ} (located : Located) (h : LocatedIn words placed code slots places located) where
@@ -165,12 +214,16 @@ module _ (words : List ℕ) (placed : Placed) (sound : Sound words placed) (code
   there : OnWay words placed sound (h .way) (located .slot) (located .level) (located .block) (h .es)
   there = on-way words placed sound (h .way) (located .slot) (located .level) (located .block) (h .es) (h .whole)
 
-  begins : (out coming : ℕ) → AtMostPixel code out × AtMostPixel code coming → h .es ≡ a ⧺ (pixelsAt out code ⧺ b)
+  -- the numbers of the blocks of the path were changed
+  abbrev pub Along : ℕ → ℕ → List ℕ → Type 0
+  Along out coming mid = PathRenumbered (layoutOf (sizesOf words)) (located .slot ∷ pathSlots slots (located .depth)) out coming words mid
+
+  begins : (out coming : ℕ) (mid : List ℕ) → Along out coming mid → AtMostPixel code out × AtMostPixel code coming → h .es ≡ a ⧺ (pixelsAt out code ⧺ b)
       → Disturbed k (quarterLevel (located .level)) (located .block) code (a ⧺ (pixelsAt coming code ⧺ b))
       → (size (pixelsAt coming code) ≡ 0 → LocallyRight k (located .level) (located .block) (a ⧺ (pixelsAt coming code ⧺ b)))
       → length (pixels placed) + coming ≤ out + sizesOf words .most
-      → Begins words (sound .usable) (pixels placed) code slots places located out coming
-  begins out coming (o, n) e disturbed right-if-none room =
+      → Begins words (sound .usable) mid (pixels placed) code slots places located out coming
+  begins out coming mid along (o, n) e disturbed right-if-none room =
       let old : Placed = pixelsAt out code in
       let new : Placed = pixelsAt coming code in
       let (l, r, pix) = between-pixels (h .way) a b in
@@ -182,6 +235,23 @@ module _ (words : List ℕ) (placed : Placed) (sound : Sound words placed) (code
       let fit : size (a ⧺ (old ⧺ b)) ≤ 4 * (k - 1) =
       subst (λ (t : Placed). size t ≤ 4 * (k - 1)) e
       (right-size k (located .level) (located .block) (h .es) (sound .usable .valid .panel .k-from) (there .view .aligned) (there .view .right)) in
+      let way-along : PathRenumbered (layoutOf (sizesOf words)) (located .slot ∷ frameSlots (h .way)) out coming words mid =
+      subst (λ (p : List ℕ). PathRenumbered (layoutOf (sizesOf words)) (located .slot ∷ p) out coming words mid) (ap (pathSlots slots) (h .depth) ∙ path-is slots places (h .way) (h .names)) along in
+      let same = along .same in
+      let shared : SlotsShared (slotCount k (sizesOf words .most)) (waySlots (h .way) ++ (located .slot ∷ slotsOf (a ⧺ (new ⧺ b)))) (sound .free) =
+      shared-moves (slotCount k (sizesOf words .most)) (slotsOf placed) (sound .free) (waySlots (h .way) ++ (located .slot ∷ slotsOf (a ⧺ (new ⧺ b)))) (sound .free) (sound .shared)
+      (λ t. omega (
+        arith,
+        ap (λ (u : Placed). occurrences t (slotsOf u)) whole,
+        plug-slots t (h .way) (located .slot) (located .level) (located .block) (a ⧺ (old ⧺ b)),
+        ap (λ (l : List ℕ). occurrences t (located .slot ∷ l)) (same-slots code a b out coming o n),
+        occurrences-join t (slotsOf placed) (sound .free),
+        occurrences-join t (waySlots (h .way) ++ (located .slot ∷ slotsOf (a ⧺ (new ⧺ b)))) (sound .free),
+        occurrences-join t (waySlots (h .way)) (located .slot ∷ slotsOf (a ⧺ (new ⧺ b))),
+      )) in
+      let two-slots : slotsOf (a ⧺ (new ⧺ b)) ≡ slotsOf a ++ slotsOf b =
+      slots-join a (new ⧺ b) ∙ ap (λ (l : List ℕ). slotsOf a ++ l) (slots-join new b ∙ ap (λ (l : List ℕ). l ++ slotsOf b) (n .slots)) in
+      let after-stands : Stands width words b = stands-parts width words old b (stands .1) .1 in
       record {
         left = l;
         right = r;
@@ -214,8 +284,8 @@ module _ (words : List ℕ) (placed : Placed) (sound : Sound words placed) (code
           pending = record {
             around = record {
               frames-right = there .right;
-              frames-stand = there .stand;
-              stands = stands-join width words a (new ⧺ b) (stands .0) (stands-join width words new b (n .stands width words) (stands-parts width words old b (stands .1) .1));
+              frames-stand = frames-same width words mid same (h .way) (located .slot) (located .level) (located .block) (there .stand);
+              stands = stands-same width words mid same (a ⧺ (new ⧺ b)) (stands-join width words a (new ⧺ b) (stands .0) (stands-join width words new b (n .stands width words) after-stands));
               level-from = there .view .level-from;
               disturbed = disturbed;
               fits = omega (
@@ -229,20 +299,16 @@ module _ (words : List ℕ) (placed : Placed) (sound : Sound words placed) (code
                 size-join old b,
               );
               some = some-left (there .enough);
-              free-chain = sound .chain;
-              shared = shared-moves (slotCount k (sizesOf words .most)) (slotsOf placed) (sound .free) (waySlots (h .way) ++ (located .slot ∷ slotsOf (a ⧺ (new ⧺ b)))) (sound .free) (sound .shared)
-                  (λ t. omega (
-                    arith,
-                    ap (λ (u : Placed). occurrences t (slotsOf u)) whole,
-                    plug-slots t (h .way) (located .slot) (located .level) (located .block) (a ⧺ (old ⧺ b)),
-                    ap (λ (l : List ℕ). occurrences t (located .slot ∷ l)) (same-slots code a b out coming o n),
-                    occurrences-join t (slotsOf placed) (sound .free),
-                    occurrences-join t (waySlots (h .way) ++ (located .slot ∷ slotsOf (a ⧺ (new ⧺ b)))) (sound .free),
-                    occurrences-join t (waySlots (h .way)) (located .slot ∷ slotsOf (a ⧺ (new ⧺ b))),
-                  ));
+              free-chain = left-same width words mid same (along .head) (slots-left (sound .shared) (sound .chain) (sound .counted));
+              shared = shared;
               pixels-are = pix (located .slot) (located .level) (located .block) new;
+              numbered = path-numbered k (sizesOf words .order) (h .way) a b (sound .numbered) (omega (arith, sound .fits, sound .usable .valid .most-to))
+                  (subst (λ (u : List ℕ). PixelChange code u target out coming) (sym was) (pixel-changed code l r out coming o n)) (there .right) (there .stand) (h .holds .0) (h .holds .1)
+                  (there .view .says .level-is) (there .view .says .code-is) (h .place .below) (stands .0) (h .place .above) after-stands (sound .chain)
+                  (subst (λ (u : List ℕ). SlotsShared (slotCount k (sizesOf words .most)) (waySlots (h .way) ++ (located .slot ∷ u)) (sound .free)) two-slots shared) way-along;
             };
-            says = subst (SlotSays (slotPart width words (located .slot)) (located .level) (located .block)) e (there .view .says);
+            says = says-same width words mid same (located .slot) (located .level) (located .block) (a ⧺ (old ⧺ b))
+                (subst (SlotSays (slotPart width words (located .slot)) (located .level) (located .block)) e (there .view .says));
             was-fit = fit;
             right-if-none-inserted = right-if-none;
           };
@@ -265,23 +331,23 @@ module _ (words : List ℕ) (placed : Placed) (sound : Sound words placed) (code
           ))
 
   -- the pixel is to be put in, with room for it, or to be taken out
-  pub change-begins : {out coming : ℕ} (one : OnePixel out coming) → located .marked ≡ eqb out 1 → CountAllows one (length (pixels placed)) (sizesOf words .most)
-      → Begins words (sound .usable) (pixels placed) code slots places located out coming
-  change-begins comes absent room =
+  pub change-begins : {out coming : ℕ} (one : OnePixel out coming) {mid : List ℕ} → Along out coming mid → located .marked ≡ eqb out 1 → CountAllows one (length (pixels placed)) (sizesOf words .most)
+      → Begins words (sound .usable) mid (pixels placed) code slots places located out coming
+  change-begins comes {mid} along absent room =
       let e : h .es ≡ a ⧺ b = h .place .is .1 absent in
-      begins 0 1 (at-most-pixel code comes) e
+      begins 0 1 mid along (at-most-pixel code comes) e
       (put-disturbs k (located .block) code (sound .usable .valid .panel .k-from) (h .holds .0) (located .level) a b
       (there .view .level-from) (there .view .aligned) (h .holds .1) (subst (LocallyRight k (located .level) (located .block)) e (there .view .right))
       (h .place .below) (h .place .above))
       (λ none. absurd (omega arith))
       (omega arith)
-  change-begins goes present counted =
+  change-begins goes {mid} along present counted =
       let e : h .es ≡ a ⧺ pixel code b = h .place .is .0 present in
       let right : LocallyRight k (located .level) (located .block) (a ⧺ b) =
       taken-right k (located .block) code (sound .usable .valid .panel .k-from) (h .holds .0) (located .level) a b
       (there .view .level-from) (there .view .aligned) (h .holds .1) (subst (LocallyRight k (located .level) (located .block)) e (there .view .right))
       (h .place .below) (h .place .above) in
-      begins 1 0 (at-most-pixel code goes) e
+      begins 1 0 mid along (at-most-pixel code goes) e
       (disturbed-if-right k (located .block) code (sound .usable .valid .panel .k-from) (h .holds .0) (located .level) (a ⧺ b)
       (there .view .level-from) (there .view .aligned) (h .holds .1) right)
       (λ none. right)

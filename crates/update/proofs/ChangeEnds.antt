@@ -1,33 +1,31 @@
--- A change ends: the store on which it came to rest, with the new count, holds the set to come, and that is the set with one pixel more or less.
-use Prim.Native.Nat.{ℕ, suc, _+_, _-_, _≤_, _<_}
+-- A change ends: the store on which it came to rest holds the set to come, and that is the set with one pixel more or less.
+use Prim.Native.Nat.{ℕ, suc, _-_, _≤_}
 use native.Mathlib.Omega.{arith}
 use mathlib.Core.Path.{_≡_, refl, ap, subst, sym, _∙_}
 use mathlib.Core.Bool.{Bool, true, false, not}
 use mathlib.Core.Option.{some}
-use mathlib.Core.List.{List, _++_, append-nil}
+use mathlib.Core.List.{List, _∷_, _++_, append-nil}
 use lib.Dec.{eqb}
-use lib.ListN.{length, take, drop, set, length-set, length-append}
-use lib.Seq.{take-set-le, drop-set-lt, getD-set-same, getD-set-other}
+use lib.ListN.{length, take, drop, set, length-set}
+use lib.Seq.{drop-set-lt, getD-set-same}
 use Rattle.pktree.specs.PixelSet.{member, Ascending, added, removed}
 use Rattle.pktree.specs.Elements.{blockAt, empty}
 use Rattle.pktree.specs.Tree.{pixels}
 use Rattle.pktree.proofs.Unlabelled.{labelled-tree}
 use Rattle.pktree.proofs.SetChanges.{added-at-place, removed-at-place}
 use Rattle.pktree.proofs.Absurd.{zero-is-not-one}
-use Rattle.measures.specs.Words.{pixelsWord}
 use Rattle.measures.specs.declared.sizes.Sizes.{Sizes}
 use Rattle.measures.specs.Sizes.{panelOf, slotWidth, sizesOf, storeWords, UsableStore}
 use Rattle.measures.specs.declared.sizes.Layout.{Layout}
 use Rattle.measures.specs.Layout.{layoutOf, LaidOut}
 use Rattle.store.specs.Opening.{CannotOpen}
-use Rattle.measures.specs.Slot.{slotPart}
 use Rattle.store.specs.Placed.{Placed, slotsOf}
 use Rattle.store.specs.Reading.{readSlot}
 use Rattle.store.specs.Sound.{Holds}
-use Rattle.store.proofs.Held.{held-set}
-use Rattle.store.proofs.Standing.{SlotSays, depth-below-level, complete-slot, frame}
-use Rattle.measures.proofs.SlotWrites.{take-less, word-in-front, head-word-set}
-use Rattle.store.proofs.FreeChains.{every-of-all, free-kept}
+use Rattle.store.proofs.Held.{held-set, held-number}
+use Rattle.store.proofs.Standing.{depth-below-level, complete-slot}
+use Rattle.store.proofs.SlotsLeft.{blocks-counted}
+use Rattle.measures.proofs.SlotWrites.{take-less, word-in-front}
 use Rattle.measures.proofs.Usable.{sizes-kept, usable-kept, layout-fits}
 use Rattle.descent.specs.declared.Located.{Located}
 use Rattle.descent.specs.Located.{LocatedIn, LocateMeets}
@@ -35,44 +33,36 @@ use Rattle.descent.proofs.OpenedByPixel.{marked-exactly}
 use Rattle.ascent.proofs.Completed.{Completed}
 use Rattle.step.specs.declared.Change.{Change}
 use Rattle.step.proofs.RegroupEnds.{kept-same}
+use Rattle.step.proofs.StepEnds.{kept-then}
 use Rattle.step.specs.Step.{Kept}
 use Rattle.update.specs.declared.marks.Changing.the-variants as changing
-use Rattle.update.specs.Changed.{OnePixel, comes, goes, exchanged, CountAllows, CanChange, ChangeMeets}
+use Rattle.update.specs.Changed.{OnePixel, comes, goes, exchanged, CanChange, ChangeMeets}
+use Rattle.update.specs.Renumber.{pathSlots, CanRenumber, PathRenumbered}
 use Rattle.propagate.specs.Propagate.{CanPropagate, PropagateMeets}
+use Rattle.update.proofs.Renumbering.{fits-renumbered, kept-renumbered}
 use Rattle.update.proofs.ChangeBegins.{settingOf, pixelsAt, at-most-pixel, change-begins}
 
-module _ (before mid : List ℕ) (usable : UsableStore before) (code : ℕ) (target : List ℕ) (few : length target ≤ sizesOf before .most) (kept : Kept (layoutOf (sizesOf before)) before mid) where
-  abbrev after : List ℕ
-  after = set mid 6 (length target)
-
+module _ (before after : List ℕ) (usable : UsableStore before) (code : ℕ) (target : List ℕ) (few : length target ≤ sizesOf before .most) (kept : Kept (layoutOf (sizesOf before)) before after) where
   abbrev width : ℕ
   width = slotWidth (sizesOf before .k)
 
   front : take 4 after ≡ take 4 before
-  front = take-less 4 6 before after (omega arith) (take-set-le 6 mid 6 (length target) (omega arith) ∙ kept .head)
+  front = take-less 4 6 before after (omega arith) (kept .head)
 
   sizes-stay : sizesOf after ≡ sizesOf before
   sizes-stay = sizes-kept before after front
 
-  usable-after : UsableStore after
-  usable-after = usable-kept before after front (length-set mid 6 (length target) ∙ kept .long) usable
-
-  -- the slots and the chain stand as they stood before the count was written
-  module _ (h : Completed (settingOf before usable code target few) mid) where
+  module _ (h : Completed (settingOf before usable code target few) after) where
     abbrev placed : Placed
     placed = blockAt 0 (sizesOf before .order) 0 (h .es) empty
 
     same-pixels : pixels placed ≡ target
     same-pixels = append-nil (pixels (h .es)) ∙ h .pixels-are
 
-    slot-stays : (s : ℕ) → slotPart width mid s ≡ slotPart width after s
-    slot-stays s = sym (head-word-set width mid 6 (length target) (omega arith) .slots s)
-
     reads-it : readSlot width after (sizesOf before .order) 0 ≡ some placed
     reads-it =
         let d : suc (sizesOf before .order - 1) ≡ sizesOf before .order = omega (arith, usable .valid .panel) in
-        let r = complete-slot width after (sizesOf before .order - 1) 0 (sizesOf before .order) 0 (h .es) (subst (λ (p : List ℕ). SlotSays p (sizesOf before .order) 0 (h .es)) (slot-stays 0) (h .root .says))
-        (frame width mid after (h .es) (every-of-all _ (slotsOf (h .es)) slot-stays) (h .root .stands))
+        let r = complete-slot width after (sizesOf before .order - 1) 0 (sizesOf before .order) 0 (h .es) (h .root .says) (h .root .stands)
         (omega (arith, depth-below-level (sizesOf before .k) (sizesOf before .order) 0 _ (h .es) (usable .valid .panel .order-from) (h .right .arranged))) in
         rw d at r
 
@@ -84,14 +74,15 @@ module _ (before mid : List ℕ) (usable : UsableStore before) (code : ℕ) (tar
         record {
           placed = placed;
           sound = record {
-            usable = usable-after;
+            usable = usable-kept before after front (kept .long) usable;
             reads = rw (o, k) reads-it;
             is-tree = rw (o, k) (labelled-tree (panelOf (sizesOf before)) 0 (h .es) (usable .valid .panel .k-from) (h .right));
             fits = rw (n, same-pixels) few;
             free = h .free;
-            chain = rw k (free-kept width mid after (h .free) (getD-set-other mid 6 7 (length target) 0 (λ e. omega arith)) (every-of-all _ (h .free) slot-stays) (h .free-chain));
+            chain = rw k (h .free-chain .chain);
             shared = rw (k, n, append-nil (slotsOf (h .es))) (h .shared);
-            counted = rw same-pixels (getD-set-same mid 6 (length target) 0 (omega (arith, kept .long, usable .long)));
+            counted = rw (append-nil (slotsOf (h .es))) (blocks-counted (h .shared) (h .free-chain));
+            numbered = rw (k, n, same-pixels) (h .numbered);
           };
           set-is = same-pixels;
         }
@@ -103,14 +94,9 @@ exchanged-there code comes left right q before after = sym (added-at-place code 
 exchanged-there code goes left right q before after = sym (removed-at-place code 0 left right (rw q at before)) ∙ ap (removed code) (sym q)
 
 -- what is left of a change that went all the way up, and of one that was stopped
-abbrev pub CarriedUp : List ℕ → List ℕ → ℕ → Bool → ℕ → ℕ → Bool → Type 0
-CarriedUp before mid code allowed out count true = ChangeMeets before (set mid 6 count) code allowed out changing.Changed
-CarriedUp before mid code allowed out count false = ChangeMeets before (set mid 0 0) code allowed out changing.Damaged
-
--- the new count is a word's
-counted : {out coming held most : ℕ} (one : OnePixel out coming) → CountAllows one held most → held < 4294967296 → most ≤ 65535 → (out ≤ held) × (held - out + coming < 4294967296)
-counted comes room small few = (omega arith, omega arith)
-counted goes present small few = (omega arith, omega arith)
+abbrev pub CarriedUp : List ℕ → List ℕ → ℕ → Bool → ℕ → Bool → Type 0
+CarriedUp before after code allowed out true = ChangeMeets before after code allowed out changing.Changed
+CarriedUp before after code allowed out false = ChangeMeets before (set after 0 0) code allowed out changing.Damaged
 
 -- what is known once the code is located in a store to which refusal 3 does not apply
 pub record LocatedAt (before : List ℕ) (sizes : Sizes) (layout : Layout) (code : ℕ) (allowed : Bool) (out coming : ℕ) (slots places : List ℕ) (located : Located) : Type 0 where
@@ -142,16 +128,9 @@ module _ {before slots places : List ℕ} {sizes : Sizes} {layout : Layout} {cod
       let t : located .damaged ≡ true = u .meets .closed (rw (ap (λ (z : Layout). z .width) layout-is, order-is) shut) in
       zero-is-not-one (cc)
 
-  pub count-fits : allowed ≡ true → pixelsWord before < 4294967296 → (out ≤ pixelsWord before) × (pixelsWord before - out + coming < 4294967296)
-  count-fits room small = counted (u .can .one) (u .can .allows room) small (rw (u .can .given .0 .1) (u .can .given .0 .0 .valid .most-to))
-
-  -- one word of the head written after what is kept
-  module _ {mid : List ℕ} (kept : Kept layout before mid) (i v : ℕ) (small : i < 8) where
-    long-then : length (set mid i v) ≡ length before
-    long-then = length-set mid i v ∙ kept .long
-
-    past-then : drop (storeWords (sizesOf before)) (set mid i v) ≡ drop (storeWords (sizesOf before)) before
-    past-then = drop-set-lt (storeWords (sizesOf before)) mid i v (omega arith) ∙ subst (λ (z : Layout). Kept z before mid) layout-is kept .past
+  -- what lies past the formula, by the store's own sizes
+  past-kept : {after : List ℕ} → Kept layout before after → drop (storeWords (sizesOf before)) after ≡ drop (storeWords (sizesOf before)) before
+  past-kept {after} kept = subst (λ (z : Layout). Kept z before after) layout-is kept .past
 
   -- word 0 is written zero, on a store that holds no set
   damaged-end : {mid : List ℕ} → Kept layout before mid → ((was : List ℕ) → Holds before was → ⊥) → ChangeMeets before (set mid 0 0) code allowed out changing.Damaged
@@ -160,13 +139,21 @@ module _ {before slots places : List ℕ} {sizes : Sizes} {layout : Layout} {cod
         sound = never;
         leaves = getD-set-same mid 0 0 0 (omega (arith, kept .long, u .can .given .0 .0 .long));
         closed = λ shut. refl;
-        long = long-then kept 0 0 (omega arith);
-        past = past-then kept 0 0 (omega arith);
+        long = length-set mid 0 0 ∙ kept .long;
+        past = drop-set-lt (storeWords (sizesOf before)) mid 0 0 (omega arith) ∙ past-kept kept;
       }
 
   -- the descent ends well on a sound store
   pub never-located : located .damaged ≡ true → ChangeMeets before (set before 0 0) code allowed out changing.Damaged
   never-located e = damaged-end (kept-same _ _ _ refl) (λ was h. let f : located .damaged ≡ false = found was h .0 in zero-is-not-one (cc))
+
+  -- the slots of the path, as the descent names them
+  abbrev path : List ℕ
+  path = located .slot ∷ pathSlots slots (located .depth)
+
+  -- at most one pixel goes, and at most one comes
+  pub at-most-one : (out ≤ 1) × (coming ≤ 1)
+  at-most-one = let (o, n) = at-most-pixel code (u .can .one) in (o .one, n .one)
 
   module _ (whole : located .damaged ≡ false) where
     pub already-so : located .marked ≡ not (eqb out 1) → ChangeMeets before before code allowed out changing.Already
@@ -175,73 +162,74 @@ module _ {before slots places : List ℕ} {sizes : Sizes} {layout : Layout} {cod
     pub disallowed : located .marked ≡ eqb out 1 → allowed ≡ false → ChangeMeets before before code allowed out changing.Disallowed
     disallowed e none = record { sound = λ was h. (as-located e was h, none, refl); leaves = refl; closed = λ shut. absurd (opens whole shut); long = refl; past = refl }
 
+    -- the numbers of the path can be changed
+    pub can-renumber : {r i : ℕ} → r ≤ 1 → i ≤ 1 → CanRenumber layout before located slots r i
+    can-renumber removed-to inserted-to =
+        let b = u .meets .bounds whole in
+        record {
+          fits = layout-fits sizes layout before (u .can .given .0 .0) (u .can .given .0 .1) (u .laid);
+          slot-below = b .slot-below;
+          deep = omega (arith, b .deep, order-is, u .can .given .0 .0 .valid .panel .order-to);
+          path-below = b .path-below;
+          removed-to = removed-to;
+          inserted-to = inserted-to;
+        }
+
     module _ {k : ℕ} (k-is : k ≡ sizes .k) where
       abbrev change : Change
       change = record { layout = layout; k = k; code = code }
 
-      -- the numbers are in bounds
-      pub can-propagate : CanPropagate change before located slots out coming
-      can-propagate =
-          let (o, n) = at-most-pixel code (u .can .one) in
-          let b = u .meets .bounds whole in
+      k-said : k ≡ sizesOf before .k
+      k-said = k-is ∙ ap (λ (z : Sizes). z .k) (u .can .given .0 .1)
+
+      -- and the change can go up
+      pub can-propagate : {r i : ℕ} {lent : List ℕ} → PathRenumbered layout path r i before lent → CanPropagate change lent located slots out coming
+      can-propagate along =
           let v = u .can .given .0 .0 .valid .panel in
-          let e : k ≡ sizesOf before .k = k-is ∙ ap (λ (z : Sizes). z .k) (u .can .given .0 .1) in
+          let r = can-renumber (at-most-one .0) (at-most-one .1) in
           record {
-            fits = layout-fits sizes layout before (u .can .given .0 .0) (u .can .given .0 .1) (u .laid);
-            k-from = rw e (v .k-from);
-            k-to = rw e (v .k-to);
-            slot-below = b .slot-below;
-            deep = omega (arith, b .deep, order-is, v .order-to);
-            path-below = b .path-below;
-            place-to = b .place-below;
-            removed-to = o .one;
-            inserted-to = n .one;
+            fits = fits-renumbered (r .fits) along;
+            k-from = rw k-said (v .k-from);
+            k-to = rw k-said (v .k-to);
+            slot-below = r .slot-below;
+            deep = r .deep;
+            path-below = r .path-below;
+            place-to = u .meets .bounds whole .place-below;
+            removed-to = r .removed-to;
+            inserted-to = r .inserted-to;
           }
 
-      module _ (expected : located .marked ≡ eqb out 1) (room : allowed ≡ true) {held : ℕ} (held-is : held ≡ pixelsWord before) where
-        abbrev count : ℕ
-        count = held - out + coming
+      module _ {lent after : List ℕ} (along : PathRenumbered layout path out coming before lent) (expected : located .marked ≡ eqb out 1) (room : allowed ≡ true) where
+        kept-all : {r : Bool} → PropagateMeets change located slots places out coming lent after r → Kept layout before after
+        kept-all s = kept-then (kept-renumbered along) (s .kept)
 
-        -- the change goes all the way up, and with the new count the store holds the set to come
-        propagated : {mid : List ℕ} {r : Bool} → PropagateMeets change located slots places out coming before mid r → (was : List ℕ) → Holds before was
-            → (r ≡ true) × Holds (set mid 6 count) (exchanged out code was) × (sizesOf (set mid 6 count) ≡ sizesOf before)
-        propagated {mid} s was h =
+        -- the change goes all the way up, and the store holds the set to come
+        propagated : {r : Bool} → PropagateMeets change located slots places out coming lent after r → (was : List ℕ) → Holds before was
+            → (r ≡ true) × Holds after (exchanged out code was) × (sizesOf after ≡ sizesOf before)
+        propagated s was h =
             let one : OnePixel out coming = u .can .one in
-            let b = change-begins before (h .placed) (h .sound) code located (found was h .1) one expected (rw (h .sound .counted, most-is) at (u .can .allows room)) in
+            let held = held-number h ∙ ap length (sym (h .set-is)) in
+            let b = change-begins before (h .placed) (h .sound) code located (found was h .1) one
+            (subst (λ (z : Layout). PathRenumbered z path out coming before lent) layout-is along) expected
+            (rw (held, most-is) at (u .can .allows room)) in
             let target : List ℕ = b .left ++ (pixels (pixelsAt coming code) ++ b .right) in
-            let kept : Kept (layoutOf (sizesOf before)) before mid = subst (λ (z : Layout). Kept z before mid) layout-is (s .kept) in
-            let (told, rest) = s .right (settingOf before (h .sound .usable) code target (b .few))
-            (record { layout-is = layout-is; k-is = k-is ∙ ap (λ (z : Sizes). z .k) (u .can .given .0 .1); x-is = refl }) (b .pending) in
-            let (o, n) = at-most-pixel code one in
-            let count-is : count ≡ length target =
-            omega (
-              arith,
-              o .count-is,
-              n .count-is,
-              held-is,
-              h .sound .counted,
-              ap length (b .set-was),
-              length-append (b .left) (pixels (pixelsAt out code) ++ b .right),
-              length-append (pixels (pixelsAt out code)) (b .right),
-              length-append (b .left) (pixels (pixelsAt coming code) ++ b .right),
-              length-append (pixels (pixelsAt coming code)) (b .right),
-            ) in
-            let holds = holds-target before mid (h .sound .usable) code target (b .few) kept rest in
-            let q : was ≡ b .left ++ (pixels (pixelsAt out code) ++ b .right) = sym (h .set-is) ∙ b .set-was in
-            rw count-is (
+            let kept : Kept (layoutOf (sizesOf before)) before after = subst (λ (z : Layout). Kept z before after) layout-is (kept-all s) in
+            let (told, rest) = s .right (settingOf before (h .sound .usable) code target (b .few)) (record { layout-is = layout-is; k-is = k-said; x-is = refl }) (b .pending) in
+            let holds = holds-target before after (h .sound .usable) code target (b .few) kept rest in
+            let q : was ≡ b .left ++ (pixels (pixelsAt out code) ++ b .right) = sym (h .set-is) ∙ b .set-was in (
               told,
-              subst (Holds (set mid 6 (length target))) (exchanged-there code one (b .left) (b .right) q (held-set h .ascending) (held-set holds .ascending)) holds,
-              sizes-stay before mid (h .sound .usable) code target (b .few) kept,
+              subst (Holds after) (exchanged-there code one (b .left) (b .right) q (held-set h .ascending) (held-set holds .ascending)) holds,
+              sizes-stay before after (h .sound .usable) code target (b .few) kept,
             )
 
-        -- the new count is written, or word 0 where the change was stopped
-        pub carried-up : {mid : List ℕ} (r : Bool) → PropagateMeets change located slots places out coming before mid r → CarriedUp before mid code allowed out count r
+        -- all is written, or word 0 is written zero where the change was stopped
+        pub carried-up : (r : Bool) → PropagateMeets change located slots places out coming lent after r → CarriedUp before after code allowed out r
         carried-up true s =
             record {
               sound = λ was h. (as-located expected was h, room, propagated s was h .1, propagated s was h .2);
               leaves = tt;
               closed = λ shut. absurd (opens whole shut);
-              long = long-then (s .kept) 6 count (omega arith);
-              past = past-then (s .kept) 6 count (omega arith);
+              long = kept-all s .long;
+              past = past-kept (kept-all s);
             }
-        carried-up false s = damaged-end (s .kept) (λ was h. zero-is-not-one (cc (propagated s was h .0)))
+        carried-up false s = damaged-end (kept-all s) (λ was h. zero-is-not-one (cc (propagated s was h .0)))

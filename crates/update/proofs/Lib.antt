@@ -1,3 +1,6 @@
+pub mod Renumbering
+pub mod SameBlocks
+pub mod PathNumbers
 pub mod ChangeBegins
 pub mod ChangeEnds
 pub mod MarkAndClear

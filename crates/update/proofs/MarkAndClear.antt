@@ -1,7 +1,7 @@
 -- Mark and clear are a change of one pixel, which the number of pixels held allows.
-use Prim.Native.Nat.{ℕ}
+use Prim.Native.Nat.{ℕ, _+_, _<_}
 use native.Mathlib.Omega.{arith}
-use mathlib.Core.Path.{_≡_, refl, ap, _∙_}
+use mathlib.Core.Path.{_≡_, refl, ap, sym, _∙_}
 use mathlib.Core.Logic.{inl, inr}
 use mathlib.Core.Bool.{Bool, true}
 use mathlib.Core.List.{List, [], _∷_}
@@ -11,10 +11,14 @@ use lib.Seq.{drop-set-lt, getD-set-same}
 use borrow.Author.Tests.{ltb-true, ltb-false}
 use Rattle.pktree.specs.PixelSet.{member}
 use Rattle.pktree.proofs.Absurd.{zero-is-not-one}
-use Rattle.measures.specs.Words.{pixelsWord}
+use Rattle.measures.specs.Words.{headWords}
+use Rattle.measures.specs.Slot.{slotPart, numberWord, numberIndex}
 use Rattle.measures.specs.declared.sizes.Sizes.{Sizes}
-use Rattle.measures.specs.Sizes.{UsableStore, sizesOf, storeWords}
+use Rattle.measures.specs.Sizes.{UsableStore, slotCount, slotWidth, sizesOf, storeWords}
+use Rattle.measures.proofs.Bounds.{slot-ends}
+use Rattle.measures.proofs.SlotWrites.{slot-word}
 use Rattle.store.specs.Sound.{Holds}
+use Rattle.store.proofs.Held.{held-number}
 use Rattle.promises.specs.Answer.{Answer, accepted, refused}
 use Rattle.promises.specs.Effect.{Effect, effect, passed, stopped}
 use Rattle.promises.specs.Walk.{Walks}
@@ -25,9 +29,26 @@ use Rattle.update.specs.declared.marks.Changing.{Changing}
 use Rattle.update.specs.declared.marks.Changing.the-variants as changing
 use Rattle.update.specs.Changed.{ChangeAnswer, ChangeMeets}
 
+-- the root's number, where the code reads it: the root's slot is the first
+abbrev pub pixelsIndex : ℕ
+pixelsIndex = headWords + numberIndex
+
+abbrev pub pixelsWord : List ℕ → ℕ
+pixelsWord words = getD words pixelsIndex 0
+
+module _ {words : List ℕ} (usable : UsableStore words) where
+  pub pixels-read : numberWord (slotPart (slotWidth (sizesOf words .k)) words 0) ≡ pixelsWord words
+  pixels-read = slot-word (slotWidth (sizesOf words .k)) 0 words pixelsIndex numberIndex (omega arith) (omega arith)
+
+  pub pixels-there : pixelsIndex < length words
+  pixels-there =
+      let k : ℕ = sizesOf words .k in
+      let slots : ℕ = slotCount k (sizesOf words .most) in
+      omega (arith, usable .enough, slot-ends 0 slots (slotWidth k) (omega arith))
+
 -- the number of pixels held is that of the set
 count-is : {before set : List ℕ} → Holds before set → pixelsWord before ≡ length set
-count-is h = h .sound .counted ∙ ap length (h .set-is)
+count-is h = sym (pixels-read (h .sound .usable)) ∙ held-number h
 
 -- no pixel is in a set of none
 no-member : (set : List ℕ) (code : ℕ) → length set ≡ 0 → member set code ≡ true → ⊥

@@ -7,9 +7,9 @@ use lib.Dec.{eqb}
 use lib.ListN.{length, getD, drop}
 use Rattle.pktree.specs.Panel.{OnPanel}
 use Rattle.pktree.specs.PixelSet.{member, added, removed}
-use Rattle.measures.specs.Words.{pixelsWord}
 use Rattle.measures.specs.declared.sizes.Sizes.{Sizes}
 use Rattle.measures.specs.Sizes.{UsableStore, panelOf, slotWidth, sizesOf, storeWords}
+use Rattle.measures.specs.Slot.{slotPart, numberWord}
 use Rattle.store.specs.Opening.{CannotOpen}
 use Rattle.store.specs.Sound.{Holds}
 use Rattle.update.specs.declared.marks.Changing.{Changing}
@@ -47,7 +47,7 @@ abbrev pub exchanged : ℕ → ℕ → List ℕ → List ℕ
 exchanged zero code set = added code set
 exchanged (suc n) code set = removed code set
 
--- the number of pixels held lets the pixel come, or go
+-- the number of pixels held, which is the root's, lets the pixel come, or go
 abbrev pub CountAllows : {out coming : ℕ} → OnePixel out coming → ℕ → ℕ → Type 0
 CountAllows comes held most = held < most
 CountAllows goes held most = 0 < held
@@ -55,7 +55,7 @@ CountAllows goes held most = 0 < held
 pub record CanChange (words : List ℕ) (sizes : Sizes) (code : ℕ) (allowed : Bool) (out coming : ℕ) : Type 0 where
   pub given : (UsableStore words × (sizes ≡ sizesOf words)) × OnPanel (panelOf sizes) code
   pub one : OnePixel out coming
-  pub allows : allowed ≡ true → CountAllows one (pixelsWord words) (sizes .most)
+  pub allows : allowed ≡ true → CountAllows one (numberWord (slotPart (slotWidth (sizesOf words .k)) words 0)) (sizes .most)
 
 abbrev pub ChangeCase : List ℕ → List ℕ → ℕ → Bool → ℕ → Changing → List ℕ → Type 0
 ChangeCase before after code allowed out changing.Changed set =

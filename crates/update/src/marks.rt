@@ -5,17 +5,22 @@ ghost use Rattle.promises.specs.Effect.{effect};
 ghost use Rattle.promises.specs.Calls.{Marks, Clears};
 ghost use Rattle.answers.specs.Answer.{answer};
 ghost use Rattle.update.specs.Changed.{CanChange, ChangeMeets, endingOf};
+use crate::numbers::renumber_path;
 use answers::Outcome;
 use answers::Refusal;
 use descent::PATH_LENGTH;
 use descent::locate;
 use measures::sizes::Sizes;
 use measures::sizes::layout_of;
+use measures::slots::NUMBER;
 use measures::slots::wide;
-use measures::words::PIXELS;
+use measures::words::HEAD_WORDS;
 use measures::words::REGISTER_MARK;
 use propagate::propagate;
 use step::Change;
+
+// The number of pixels held is the root's, and the root's slot is the first.
+const PIXELS: usize = HEAD_WORDS + NUMBER;
 
 // How the change of one pixel ends. It is disallowed where the number of pixels held does not let one come, or go.
 pub enum Changing {
@@ -71,17 +76,16 @@ fn change_pixel(
     if !allowed {
         return DISALLOWED;
     }
-    let held = wide(store[PIXELS]);
     let change = Change {
         layout,
         k: wide(sizes.k),
         code,
     };
+    renumber_path(store, layout, located, &slots, removed, inserted);
     if !propagate(store, change, located, &slots, &places, removed, inserted) {
         store[REGISTER_MARK] = 0;
         return DAMAGED;
     }
-    store[PIXELS] = (held - removed + inserted) as u32;
     CHANGED
 }
 

@@ -6,25 +6,23 @@ use borrow.Fn.PlainCycle.{Measures}
 use mathlib.Core.Path.{_≡_, refl, ap, _∙_}
 use mathlib.Core.Logic.{⊎-elim}
 use lib.ListN.{length}
-use Rattle.pktree.specs.Window.{Ordered}
-use Rattle.measures.specs.Layout.{LayoutFits}
 use Rattle.walks.proofs.LoopTurns.{element-there, next-fits as turn-fits, fewer-left}
 use Rattle.walks.proofs.Walks.{InLoop, loop-turns, turns-pixel}
-use Rattle.query.specs.Corners.{windowBetween}
-use Rattle.query.specs.Counting.{ofElements}
+use Rattle.windows.specs.Corners.{windowBetween}
+use Rattle.query.specs.Counting.{CanQuery}
+use Rattle.query.proofs.Opens.{list-opens}
 use Rattle.query.proofs.Openings.{next-below, next-begins, next-fits}
 use Rattle.query.proofs.Findings.{elements-additive}
-use Rattle.listing.specs.Listing.{Lists}
 use Rattle.listing.proofs.Lists.{list-walk, all-are, pixel-listed}
-use Rattle.listing.proofs.BlockLists.{block-skipped, block-listed, list-barred, list-inside, list-whole}
+use Rattle.listing.proofs.BlockLists.{ListsElements, block-skipped, block-listed, list-barred, list-inside, list-whole}
 use Rattle.listing.proofs.list_block.Kinds as kinds
 use Rattle.listing.proofs.list_block.Reads as reads
 use Rattle.listing.proofs.+list_block.Lts-list_block as lts
 use Rattle.listing.proofs.list_inside.Reads as list-inside-reads
 use Rattle.listing.proofs.list_pixel.Reads as list-pixel
 use Rattle.query.proofs.walk.open_next.Reads as open-next
-use Rattle.query.proofs.window.lies_inside.Reads as lies-inside
-use Rattle.query.proofs.window.meets.Reads as meets
+use Rattle.windows.proofs.lies_inside.Reads as lies-inside
+use Rattle.windows.proofs.meets.Reads as meets
 use Rattle.std.proofs.num.wrapping_add_u32.Reads as wrapping-add
 use Rattle.walks.proofs.part_of.Reads as part-of
 use Rattle.store.proofs.elements.element_at.Reads as element-at
@@ -36,9 +34,9 @@ abbrev μ-block : Measures 4 kinds.ps ℕ
 
 abbrev Inv-loop : lts.InvT-loop
 Inv-loop store range above slot level code output₀ blocks found₀ tested₀ corners count part opened₀ i₀ output found tested opened i =
-    InLoop (Lists (ofElements (windowBetween (range .corners))) (range .layout .slots)) (range .layout) store above slot level code count part i (output₀, found₀, opened₀, tested₀)
+    InLoop (ListsElements range) (range .layout) store above slot level code count part i (output₀, found₀, opened₀, tested₀)
     (output, found, opened, tested)
-    × (LayoutFits (range .layout) store × Ordered (windowBetween (range .corners))) × (length output ≡ length output₀)
+    × CanQuery range store × (length output ≡ length output₀)
 
 abbrev μ-loop : lts.MeasureT-loop
 μ-loop store range above slot level code output₀ blocks found₀ tested₀ corners count part opened₀ i₀ output found tested opened i = count - i
@@ -60,7 +58,7 @@ pub +list-block-spec : {M : Type 1} → statement M
     (λ c.
     let o = c .before .before .before .before in
     let start = o .before .before .before .before .before .before .before in
-    let walk = list-walk (elements-additive (windowBetween (start .args .range .corners))) in
+    let walk = list-walk (elements-additive (list-opens (windowBetween (start .args .range .corners)))) in
     (next-begins (o .open-next .ensures) (c .before .before .count .given .1) (c .part-of .ensures) walk, start .pre .1, refl))
     (λ c κs. search needs)
     (λ c κs. let turn = c .before .before in element-there (turn .before .loop .inv .0) (turn .loop-test .taken))
@@ -86,10 +84,10 @@ pub +list-block-spec : {M : Type 1} → statement M
     let one = test .wrapping-add-u32 .ensures in
     let begun = turn .before .before .before .before .before .before in
     let range = begun .before .before .before .before .before .before .before .args .range in
-    let walk = list-walk (elements-additive (windowBetween (range .corners))) in
-    let ordered = l .1 .1 in
+    let walk = list-walk (elements-additive (list-opens (windowBetween (range .corners)))) in
+    let ordered = l .1 .ordered in
     ⊎-elim (λ w. (
-      turns-pixel (l .0) below is (all-are (w .8) (w .9) (w .11) (w .10)) walk (w .1 .given .1) (pixel-listed (range .corners) ordered one (w .5 .ensures)),
+      turns-pixel (l .0) below is (all-are (w .8) (w .9) (w .11) (w .10)) walk (w .1 .given .1) (pixel-listed (range .corners) ordered one (l .1 .most-to) (w .5 .ensures)),
       l .1,
       ap length (w .8) ∙ w .5 .ensures .long ∙ l .2,
     ))

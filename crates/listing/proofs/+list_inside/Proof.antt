@@ -7,12 +7,11 @@ use mathlib.Core.Logic.{⊎-elim}
 use lib.ListN.{length}
 use Rattle.walks.proofs.LoopTurns.{element-there, next-fits as turn-fits, fewer-left}
 use Rattle.walks.proofs.Walks.{InLoop, turns-pixel, turns-block}
-use Rattle.query.specs.Counting.{ofAll}
+use Rattle.measures.specs.Sizes.{largestMost}
 use Rattle.query.proofs.Openings.{next-below, next-begins, next-fits}
-use Rattle.query.proofs.Findings.{all-additive}
-use Rattle.listing.specs.Listing.{Lists}
+use Rattle.listing.specs.Listing.{ofAll, Lists}
 use Rattle.listing.proofs.Lists.{list-walk, all-are, code-added}
-use Rattle.listing.proofs.BlockLists.{all-barred, all-whole}
+use Rattle.listing.proofs.BlockLists.{all-additive, all-barred, all-whole}
 use Rattle.listing.proofs.list_inside.Kinds as kinds
 use Rattle.listing.proofs.list_inside.Reads as reads
 use Rattle.listing.proofs.+list_inside.Lts-list_inside as lts
@@ -28,7 +27,7 @@ abbrev μ-block : Measures 3 kinds.ps ℕ
 
 abbrev Inv-loop : lts.InvT-loop
 Inv-loop store layout above slot level code output₀ blocks found₀ count part opened₀ i₀ output found opened i =
-    InLoop (Lists ofAll (layout .slots)) layout store above slot level code count part i (output₀, found₀, opened₀, 0) (output, found, opened, 0) × (length output ≡ length output₀)
+    InLoop (Lists ofAll largestMost (layout .slots)) layout store above slot level code count part i (output₀, found₀, opened₀, 0) (output, found, opened, 0) × (length output ≡ length output₀)
 
 abbrev μ-loop : lts.MeasureT-loop
 μ-loop store layout above slot level code output₀ blocks found₀ count part opened₀ i₀ output found opened i = count - i

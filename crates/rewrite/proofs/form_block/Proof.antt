@@ -1,11 +1,51 @@
 -- `rewrite::form_block` meets its contract: taking the slot, the move, the splice and the header leave together what `Moves` says.
+use mathlib.Core.Path.{refl}
 use borrow.Author.Needs.{needs}
-use Rattle.rewrite.proofs.Moves.{fresh-small, taken-fits, run-still-within, fresh-below, moved-fits, moved-gives-way, run-few, cut-fits, block-formed}
+use Rattle.rewrite.proofs.Moves.{fresh-small, taken-fits, run-still-within, lent-within, fresh-below, moved-fits, moved-gives-way, run-few, cut-fits, block-formed}
 use Rattle.rewrite.proofs.form_block.Statement.{statement}
 use Rattle.rewrite.proofs.form_block.Tie as tie
 
+abbrev taken-at : tie.After-fresh → tie.After-take-free
+taken-at c = c .before .before .before .before
+
+abbrev start : tie.After-take-free → tie.Start
+start c = c .before .before .before
+
+abbrev fresh-at : tie.After-move-run → tie.After-fresh
+fresh-at c = c .before .before .before .before .before .before .before
+
+abbrev moved-at : tie.After-splice-slot → tie.After-move-run
+moved-at c = c .before .before .before .before .before .before
+
 returns : tie.Need-returns
 returns c = rw (c .enum-told .given .1) at (c .before .before .before .before .take-free .ensures)
+
+head-slot-requires : tie.Need-head-slot-requires
+head-slot-requires c κs =
+    let cut = c .before .before .before .before in
+    let moved = moved-at cut in
+    let f = fresh-at moved in
+    let t = taken-at f in
+    let can = start t .pre .0 in (
+      (
+        cut-fits _ _ _ (f .fresh .given .1) (t .take-free .ensures) can _ (moved .before .wide .ensures) _ (moved .move-run .ensures) _ _ (cut .splice-slot .ensures),
+        fresh-below _ _ _ (f .fresh .given .1) (t .take-free .ensures) can _ (c .wide2 .ensures),
+      ),
+      run-few can,
+    )
+
+returns-2 : tie.Need-returns-2
+returns-2 c =
+    let headed = c .before .before in
+    let cut = headed .before .before .before .before .before in
+    let moved = moved-at cut in
+    let summed = moved .before .before .before in
+    let f = fresh-at moved in
+    let t = taken-at f in
+    let s = start t in
+    block-formed _ _ _ (f .fresh .given .1) (t .take-free .ensures) (s .pre .0) _ (moved .before .wide .ensures) _ (moved .move-run .ensures) _ _ (cut .splice-slot .ensures)
+    _ _ _ _ _ _ (s .pre .1) (headed .before .wide2 .ensures) refl (cut .before .before .before .block-tag .ensures) (summed .before .slot-part .ensures) (summed .number-of-run .ensures)
+    (headed .head-slot .ensures)
 
 pub form-block-spec : {M : Type 1} → statement M
 form-block-spec =
@@ -16,12 +56,14 @@ form-block-spec =
     (λ c. search needs)
     (λ c. search needs)
     returns
+    (λ c κs. search (needs, taken-fits))
+    (λ c κs. search (needs, taken-fits, lent-within, run-few))
     (λ c κs. search needs)
-    (λ c κs. search (needs, taken-fits, fresh-below, run-still-within))
+    (λ c κs. ((search (needs, taken-fits), (search needs, search (needs, fresh-below))), search (needs, run-still-within)))
     (λ c κs. search (needs, fresh-small))
     (λ c. search needs)
     (λ c κs. search (needs, moved-fits, moved-gives-way))
     (λ c κs. search needs)
-    (λ c κs. ((search (needs, cut-fits), search (needs, fresh-below)), search (needs, run-few)))
-    (λ c. search needs)
-    (λ c. search (needs, block-formed)))
+    head-slot-requires
+    (λ c. returns-2 c .long)
+    returns-2)

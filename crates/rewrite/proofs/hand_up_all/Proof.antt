@@ -13,6 +13,8 @@ hand-up-all-spec =
     (λ c. search (needs, count-there))
     (λ c κs. search needs)
     (λ c κs. (search (needs, whole-within), search (needs, room-for-all)))
+    (λ c. search needs)
+    (λ c κs. search needs)
     (λ c κs. search needs)
     (λ c. search needs)
     (λ c. search needs)

@@ -2,7 +2,7 @@
 use borrow.Author.Needs.{needs}
 use Rattle.measures.proofs.Usable.{sizes-valid, layout-fits}
 use Rattle.soundness.proofs.RootWalks.{can-start}
-use Rattle.soundness.proofs.CheckSteps.{root-unsound, chain-broken, sum-fits, slots-lost, pixels-decide}
+use Rattle.soundness.proofs.CheckSteps.{root-unsound, chain-broken, sum-fits, slots-lost, blocks-decide}
 use Rattle.soundness.proofs.is_sound.Statement.{statement}
 use Rattle.soundness.proofs.is_sound.Tie as tie
 
@@ -23,4 +23,4 @@ is-sound-spec =
     (λ c. search (needs, sum-fits))
     (λ c. search (needs, slots-lost))
     (λ c. search needs)
-    (λ c. search (needs, pixels-decide)))
+    (λ c. search (needs, blocks-decide)))

@@ -79,7 +79,7 @@ returns-2 c =
     let d = j .before .before .before .before .block-around in
     let r = rw (c .enum-told .given .1) at (f .form-block .ensures) in
     record {
-      kept = record { long = r .long; head = front-kept _ (a .store .now) (f .form-block .last .0) (r .head); past = r .past (a .change .layout .slots) (p .slot-below) (r .fresh-below) };
+      kept = record { long = r .long; head = front-kept _ _ (a .store .now) (f .form-block .last .0) (r .head); past = r .past (a .change .layout .slots) (p .slot-below) (r .fresh-below) };
       bounds = tt;
       scratch-long = refl;
       right = λ σ way outer code es free s l g. regrouped-done (s .layout-is) (d .ensures ∙ ap (blockCode (a .level)) (s .x-is)) l g (enough-left j s l) (p .fits) r;

@@ -1,4 +1,4 @@
--- `building::build::pack` meets its contract: the block is laid in its slot, and its two words take the place of its elements.
+-- `building::build::pack` meets its contract: the block is laid in its slot with its number, and its two words take the place of its elements.
 use native.Mathlib.Omega.{arith}
 use lib.ListN.{length-set}
 use borrow.Author.Needs.{needs}
@@ -17,6 +17,7 @@ pack-spec =
     (λ c. search needs)
     (λ c. search needs)
     (λ c. search needs)
+    (λ c κs. search needs)
     (λ c κs. search needs)
     (λ c. search needs)
     (λ c. search needs)

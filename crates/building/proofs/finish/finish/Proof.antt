@@ -1,8 +1,20 @@
--- `building::finish::finish` meets its contract: all blocks are packed, the root is laid, the other slots are freed, and the pixels counted.
+-- `building::finish::finish` meets its contract: all blocks are packed, the root is laid with the number of pixels, and the other slots are freed.
 use borrow.Author.Needs.{needs}
-use Rattle.building.proofs.Finishing.{pack-below-due, lay-root-due, still-fits, fresh-below, length-kept, finished}
+use Rattle.building.proofs.Finishing.{pack-below-due, lay-root-due, still-fits, fresh-below, finished}
 use Rattle.building.proofs.finish.finish.Statement.{statement}
 use Rattle.building.proofs.finish.finish.Tie as tie
+
+abbrev packedOf : tie.After-lay-block → tie.After-pack-complete
+packedOf l = l .before .before .before .before .before .before .before
+
+abbrev startOf : tie.After-pack-complete → tie.Start
+startOf p = p .before .before .before .before .before
+
+free-from-requires : tie.Need-free-from-requires
+free-from-requires c κs =
+    let laid = c .before .before .before in
+    let packed = packedOf laid in
+    (still-fits (startOf packed .pre) (packed .pack-complete .ensures) (laid .lay-block .ensures), search (needs, fresh-below))
 
 pub finish-spec : {M : Type 1} → statement M
 finish-spec =
@@ -10,8 +22,7 @@ finish-spec =
     (tie.spec
     (λ c κs. search (needs, pack-below-due))
     (λ c κs. search (needs, lay-root-due))
-    (λ c κs. search (needs, still-fits, fresh-below))
+    free-from-requires
     (λ c. search needs)
-    (λ c. search (needs, length-kept))
     (λ c. search needs)
     (λ c. search (needs, finished)))

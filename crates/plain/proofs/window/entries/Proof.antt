@@ -6,10 +6,10 @@ use Rattle.plain.proofs.window.entries.Statement.{statement}
 use Rattle.plain.proofs.window.entries.Tie as tie
 
 abbrev Inv-loop : tie.InvT-loop
-Inv-loop panel set window low high number₀ place₀ place-end number place = (number ≤ place) × (place ≤ place-end)
+Inv-loop panel set window sought number₀ place₀ place-end number place = (number ≤ place) × (place ≤ place-end)
 
 abbrev μ-loop : tie.MeasureT-loop
-μ-loop panel set window low high number₀ place₀ place-end number place = place-end - place
+μ-loop panel set window sought number₀ place₀ place-end number place = place-end - place
 
 pub entries-spec : {M : Type 1} → statement M
 entries-spec =

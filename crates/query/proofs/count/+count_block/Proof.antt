@@ -5,19 +5,19 @@ use borrow.Fn.PlainCycle.{Measures}
 use mathlib.Core.Logic.{⊎-elim}
 use Rattle.walks.proofs.LoopTurns.{element-there, next-fits as turn-fits, fewer-left}
 use Rattle.walks.proofs.Walks.{InLoop, loop-turns, turns-pixel}
-use Rattle.query.specs.Corners.{windowBetween}
-use Rattle.query.specs.Counting.{ofElements, Counts}
+use Rattle.windows.specs.Corners.{windowBetween}
+use Rattle.query.proofs.Opens.{count-opens}
 use Rattle.query.proofs.Openings.{next-below, next-begins, next-fits}
 use Rattle.query.proofs.Findings.{elements-additive, count-walk}
-use Rattle.query.proofs.Counts.{numbers-are, pixel-counted, block-skipped, block-counted, count-inside, count-barred, count-whole}
+use Rattle.query.proofs.Counts.{CountsElements, numbers-are, pixel-counted, block-skipped, block-counted, count-inside, count-barred, count-whole}
 use Rattle.query.proofs.count.count_block.Kinds as kinds
 use Rattle.query.proofs.count.count_block.Reads as reads
 use Rattle.query.proofs.count.+count_block.Lts-count_block as lts
-use Rattle.query.proofs.count.count_inside.Reads as count-inside-reads
+use Rattle.query.proofs.count.take_number.Reads as take-number
 use Rattle.query.proofs.count.count_pixel.Reads as count-pixel
 use Rattle.query.proofs.walk.open_next.Reads as open-next
-use Rattle.query.proofs.window.lies_inside.Reads as lies-inside
-use Rattle.query.proofs.window.meets.Reads as meets
+use Rattle.windows.proofs.lies_inside.Reads as lies-inside
+use Rattle.windows.proofs.meets.Reads as meets
 use Rattle.std.proofs.num.wrapping_add_u32.Reads as wrapping-add
 use Rattle.walks.proofs.part_of.Reads as part-of
 use Rattle.store.proofs.elements.element_at.Reads as element-at
@@ -29,14 +29,14 @@ abbrev μ-block : Measures 3 kinds.ps ℕ
 
 abbrev Inv-loop : lts.InvT-loop
 Inv-loop store range above slot level code blocks found₀ tested₀ corners count part opened₀ i₀ found tested opened i =
-    InLoop (Counts (ofElements (windowBetween (range .corners))) (range .layout .slots)) (range .layout) store above slot level code count part i (found₀, opened₀, tested₀) (found, opened, tested)
+    InLoop (CountsElements range) (range .layout) store above slot level code count part i (found₀, opened₀, tested₀) (found, opened, tested)
 
 abbrev μ-loop : lts.MeasureT-loop
 μ-loop store range above slot level code blocks found₀ tested₀ corners count part opened₀ i₀ found tested opened i = count - i
 
 pub +count-block-spec : {M : Type 1} → statement M
 +count-block-spec = close μ-block λ t. lts.spec
-    (_, lies-inside.Learnt, _, count-inside-reads.Learnt, _, open-next.Learnt, _, part-of.Learnt, _, wrapping-add.Learnt, _, element-at.Learnt, _, count-pixel.Learnt, _, meets.Learnt, _, reads.Post) _ reads.Post
+    (_, lies-inside.Learnt, _, take-number.Learnt, _, open-next.Learnt, _, part-of.Learnt, _, wrapping-add.Learnt, _, element-at.Learnt, _, count-pixel.Learnt, _, meets.Learnt, _, reads.Post) _ reads.Post
     Inv-loop μ-loop
     (λ c κs. search needs)
     (λ c κs. search needs)
@@ -50,7 +50,7 @@ pub +count-block-spec : {M : Type 1} → statement M
     (λ c.
     let o = c .before .before .before .before in
     let a = o .before .before .before .before .before .before .args in
-    next-begins (o .open-next .ensures) (c .before .before .count .given .1) (c .part-of .ensures) (count-walk (elements-additive (windowBetween (a .range .corners)))))
+    next-begins (o .open-next .ensures) (c .before .before .count .given .1) (c .part-of .ensures) (count-walk (elements-additive (count-opens (windowBetween (a .range .corners))))))
     (λ c κs. search needs)
     (λ c κs. let turn = c .before .before in element-there (turn .before .loop .inv) (turn .loop-test .taken))
     (λ c. c .match2 .keys1)
@@ -70,9 +70,11 @@ pub +count-block-spec : {M : Type 1} → statement M
     let begun = turn .before .before .before .before .before .before in
     let start = begun .before .before .before .before .before .before in
     let range = start .args .range in
-    let walk = count-walk (elements-additive (windowBetween (range .corners))) in
-    let ordered = start .pre .1 .1 in
-    ⊎-elim (λ w. turns-pixel l below is (numbers-are (w .5) (w .7) (w .6)) walk (w .1 .given .1) (pixel-counted (range .corners) ordered one (w .4 .ensures)))
+    let opens = count-opens (windowBetween (range .corners)) in
+    let walk = count-walk (elements-additive opens) in
+    let can = start .pre .1 in
+    let ordered = can .ordered in
+    ⊎-elim (λ w. turns-pixel l below is (numbers-are (w .5) (w .7) (w .6)) walk (w .1 .given .1) (pixel-counted (range .corners) opens ordered one (can .most-to) (w .4 .ensures)))
     (⊎-elim (λ w. loop-turns l below is (numbers-are (w .8) (w .10) (w .9)) walk (block-counted range ordered one (w .1 .given .1) (w .3 .ensures) (w .4 .taken) (w .7 .ensures)))
     (λ w. loop-turns l below is (numbers-are (w .5) (w .7) (w .6)) walk (block-skipped range ordered one (w .1 .given .1) (w .3 .ensures) (w .4 .left))))
     (c .match2 .came))

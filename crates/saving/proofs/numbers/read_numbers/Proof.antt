@@ -1,18 +1,45 @@
 -- `saving::numbers::read_numbers` meets its contract: each way out is a law of SaidNumbers. Assumes nothing.
+use Prim.Native.Nat.{_≤_}
+use native.Mathlib.Omega.{arith}
 use borrow.Author.Needs.{needs}
-use Rattle.measures.proofs.Usable.{sizes-valid, layout-fits}
-use Rattle.saving.proofs.SaidNumbers.{too-many, not-tallied, numbers-said}
+use Rattle.measures.specs.Words.{blocksWord}
+use Rattle.measures.proofs.Usable.{sizes-valid, layout-fits, part-has-head, part-narrow}
+use Rattle.saving.proofs.SaidNumbers.{not-opened, too-many-pixels, too-many-blocks, numbers-said}
 use Rattle.saving.proofs.numbers.read_numbers.Statement.{statement}
 use Rattle.saving.proofs.numbers.read_numbers.Tie as tie
+
+-- where the slots lie, which is found before the number of pixels is tested
+abbrev laidBefore : tie.Else1 → tie.After-layout-of
+laidBefore c = let opened = c .before .before .before .before .before in opened .before .before
+
+open-part-requires : tie.Need-open-part-requires
+open-part-requires c κs = search (needs, part-has-head, part-narrow, layout-fits)
+
+returns-3 : tie.Need-returns-3
+returns-3 c =
+    let laid = laidBefore (c .before .before .before .before) in
+    let a = laid .before .before in
+    too-many-blocks (a .pre .0) (a .pre .1) (laid .layout-of .ensures) (omega (arith, c .if2 .taken, c .before .before .wide .ensures))
+
+returns-4 : tie.Need-returns-4
+returns-4 c =
+    let laid = laidBefore (c .before .before .before .before) in
+    let within : blocksWord (laid .before .before .args .store .now) ≤ laid .layout-of .result .slots = omega (arith, c .if2 .left, c .before .before .wide .ensures) in
+    search (needs, numbers-said, within)
 
 pub read-numbers-spec : {M : Type 1} → statement M
 read-numbers-spec =
     tie.close
     (tie.spec
-    (λ c. search needs)
-    (λ c. search (needs, too-many))
     (λ c κs. search (needs, sizes-valid))
     (λ c κs. search (needs, layout-fits))
+    open-part-requires
+    (λ c. c .match .keys1)
+    (λ c. c .match .keys2)
+    (λ c. search (needs, not-opened))
+    (λ c. let opened = c .before .before .before in omega (arith, open-part-requires (opened .before) (opened .open-part .lifetimes) .0))
+    (λ c. search (needs, too-many-pixels))
+    (λ c. search needs)
     (λ c κs. search needs)
-    (λ c. search (needs, not-tallied))
-    (λ c. search (needs, numbers-said)))
+    returns-3
+    returns-4)

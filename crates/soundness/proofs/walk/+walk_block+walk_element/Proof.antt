@@ -3,8 +3,8 @@ use Prim.Native.Nat.{ℕ, _+_, _-_, _*_}
 use native.Mathlib.Omega.{arith}
 use borrow.Author.Needs.{needs}
 use borrow.Fn.PlainCycle.{Measures}
-use mathlib.Core.Path.{_≡_, refl}
-use Rattle.soundness.proofs.BlockWalks.{InBlock, not-opened, block-begins, element-there, next-fits, refused-at, element-can, unsound-at, next-walked, too-long, block-whole}
+use mathlib.Core.Path.{_≡_}
+use Rattle.soundness.proofs.BlockWalks.{InBlock, not-opened, block-begins, element-there, next-fits, refused-at, element-can, unsound-at, next-walked, number-there, pixels-grow, misnumbered, too-long, block-whole}
 use Rattle.soundness.proofs.ElementWalks.{level-zero, past-slots, child-can, child-falls, pixel-walked, block-walked}
 use Rattle.soundness.proofs.walk.walk_block.Reads as walk-block
 use Rattle.soundness.proofs.walk.walk_block.Kinds as walk-block-kinds
@@ -31,11 +31,11 @@ abbrev μ-walk-element : Measures 1 walk-element-kinds.ps ℕ
 
 -- the measure at the block's level is kept in reach
 abbrev Inv-loop : ℕ → walk-block-lts.InvT-loop
-Inv-loop t store limits claim count part quarters pass₀ seen-now₀ i₀ pass seen-now i =
-    (2 * claim .level + 1 ≡ t) × InBlock limits store part claim seen-now₀ count i pass seen-now
+Inv-loop t store limits claim seen count part quarters pass₀ seen-now₀ i₀ pass seen-now i =
+    (2 * claim .level + 1 ≡ t) × InBlock limits store part claim seen count i pass seen-now
 
 abbrev μ-loop : walk-block-lts.MeasureT-loop
-μ-loop store limits claim count part quarters pass₀ seen-now₀ i₀ pass seen-now i = count - i
+μ-loop store limits claim seen count part quarters pass₀ seen-now₀ i₀ pass seen-now i = count - i
 
 pub +walk-block+walk-element-spec : {M : Type 1} → statement M
 +walk-block+walk-element-spec = close μ-walk-block μ-walk-element
@@ -57,7 +57,7 @@ pub +walk-block+walk-element-spec : {M : Type 1} → statement M
     (λ c.
     let looked = c .before .before .before in
     let turn = looked .before .before in
-    refused-at (turn .loop .inv .1) (looked .before .loop-test .taken) (looked .element-at .ensures) refl (c .enum-told2 .given .1) (c .before .before .pass-element .ensures))
+    refused-at (turn .loop .inv .1) (looked .before .loop-test .taken) (looked .element-at .ensures) (c .enum-told2 .given .1) (c .before .before .pass-element .ensures))
     (λ c κs.
     let passed = c .before in
     let looked = passed .before .before .before in
@@ -70,7 +70,7 @@ pub +walk-block+walk-element-spec : {M : Type 1} → statement M
     let passed = walked .before .before in
     let looked = passed .before .before .before in
     unsound-at (looked .before .before .loop .inv .1) (looked .before .loop-test .taken) (looked .element-at .ensures) (passed .next .given .1)
-    (passed .before .before .pass-element .ensures) refl (c .enum-told3 .given .1) (walked .walk-element .ensures))
+    (passed .before .before .pass-element .ensures) (c .enum-told3 .given .1) (walked .walk-element .ensures))
     (λ c.
     let passed = c .before .before .before .before .before in
     let looked = passed .before .before .before in
@@ -88,10 +88,19 @@ pub +walk-block+walk-element-spec : {M : Type 1} → statement M
     (λ c κs. c .before .loop .inv .1 .can .level-to)
     (λ c.
     let ended = c .before .before in
-    too-long (ended .before .before .loop .inv .1) (ended .before .loop-test .left) (ended .block-end .ensures) refl (c .if1 .taken))
+    too-long (ended .before .before .loop .inv .1) (ended .before .loop-test .left) (ended .block-end .ensures) (c .if1 .taken))
+    (λ c. omega (arith, number-there (c .before .before .before .before .before .loop .inv .1)))
     (λ c.
-    let ended = c .before .before in
-    block-whole (ended .before .before .loop .inv .1) (ended .before .loop-test .left) (ended .block-end .ensures) refl (c .if1 .left)))
+    let fitted = c .before .before .before in
+    omega (arith, pixels-grow (fitted .before .before .before .before .loop .inv .1)))
+    (λ c.
+    let fitted = c .before .before .before .before in
+    let ended = fitted .before .before in
+    misnumbered (ended .before .before .loop .inv .1) (ended .before .loop-test .left) (λ same. omega (arith, same, c .if2 .taken)))
+    (λ c.
+    let fitted = c .before .before .before .before in
+    let ended = fitted .before .before in
+    block-whole (ended .before .before .loop .inv .1) (ended .before .loop-test .left) (ended .block-end .ensures) (fitted .if1 .left) (omega (arith, c .if2 .left))))
     λ t. walk-element-lts.spec (_, see-pixel.Learnt, _, wide.Learnt, _, walk-block.Post) _ walk-element.Post
     (λ c. search needs)
     (λ c κs. search needs)

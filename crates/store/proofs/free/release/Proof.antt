@@ -1,4 +1,4 @@
--- `store::free::release` meets its contract: two words of the slot and word 7 are set, which puts the slot before the chain.
+-- `store::free::release` meets its contract: two words of the slot and words 6 and 7 are set, which puts the slot before the chain.
 use native.Mathlib.Omega.{arith}
 use lib.ListN.{length-set}
 use borrow.Author.Needs.{needs}
@@ -15,11 +15,14 @@ slice-write-store-2 c = simp length-set (omega arith)
 slice-write-store-3 : tie.Need-slice-write-store-3
 slice-write-store-3 c = simp length-set (omega arith)
 
+slice-write-store-4 : tie.Need-slice-write-store-4
+slice-write-store-4 c = simp length-set (omega arith)
+
 returns : tie.Need-returns
 returns c =
     let s = c .before .before .before in
     let o = c .before .offset .ensures in
-    slot-released (s .args .layout .width) (s .args .slot) _ (s .args .store .now) (omega arith) (omega arith) (o .is)
+    slot-released (s .args .layout .width) (s .args .slot) _ (s .args .held) (s .args .store .now) (omega arith) (omega arith) (o .is)
 
 pub release-spec : {M : Type 1} → statement M
 release-spec =
@@ -34,5 +37,6 @@ release-spec =
     slice-write-store-2
     (λ c. search needs)
     slice-write-store-3
+    slice-write-store-4
     (λ c. search needs)
     returns)

@@ -1,5 +1,5 @@
 -- `update::marks::change_pixel` meets its contract: nothing is written before every refusal is decided, and what goes up is the set with one pixel more or less.
-use Prim.Native.Nat.{_+_, _-_, _≤_, _<_}
+use Prim.Native.Nat.{_≤_}
 use native.Mathlib.Omega.{arith}
 use mathlib.Core.Path.{_≡_, refl}
 use mathlib.Core.Bool.{Bool, true, false, not, Bool·beq}
@@ -8,7 +8,7 @@ use borrow.Author.Needs.{needs}
 use borrow.Author.Tests.{not-true, not-false}
 use Rattle.pktree.proofs.Absurd.{zero-is-not-one}
 use Rattle.measures.proofs.Usable.{layout-fits}
-use Rattle.update.proofs.ChangeEnds.{LocatedAt, never-located, already-so, disallowed, count-fits, can-propagate, CarriedUp, carried-up}
+use Rattle.update.proofs.ChangeEnds.{LocatedAt, never-located, already-so, disallowed, at-most-one, can-renumber, can-propagate, CarriedUp, carried-up}
 use Rattle.update.proofs.marks.change_pixel.Statement.{statement}
 use Rattle.update.proofs.marks.change_pixel.Tie as tie
 
@@ -56,52 +56,49 @@ returns-3 c =
     let whole = expected .before .before in
     disallowed (located (whole .before)) (whole .if1 .left) (alike _ _ (expected .if2 .left)) (not-true _ (c .if3 .taken))
 
+renumber-path-requires : tie.Need-renumber-path-requires
+renumber-path-requires c κs =
+    let expected = c .before .before .before .before in
+    let whole = expected .before .before in
+    let few = at-most-one (located (whole .before)) in
+    can-renumber (located (whole .before)) (whole .if1 .left) (omega (arith, few)) (omega (arith, few))
+
 propagate-requires : tie.Need-propagate-requires
 propagate-requires c κs =
-    let w = c .before .before .before in
-    let expected = w .before .before .before .before in
-    let whole = expected .before .before in
-    can-propagate (located (whole .before)) (whole .if1 .left) (w .wide2 .ensures)
+    let path = c .before .before .before .before .before in
+    let w = path .before .before .before in
+    let whole = w .before .before .before .before in
+    can-propagate (located (whole .before)) (whole .if1 .left) (w .wide .ensures) (path .renumber-path .ensures)
 
 -- the change went up, or was stopped
 carried : (c : tie.After-propagate)
-    → let w = c .before .before .before .before in
-    let held = w .before .wide .result in
-    let expected = w .before .before .before .before in
+    → let path = c .before .before .before .before .before .before in
+    let expected = path .before .before .before .before .before in
     let whole = expected .before .before in
     let l = whole .before .before .before .before .before in
     let a = l .before .before .args in
-    CarriedUp (a .store .now) (c .propagate .last .0) (a .code) (a .allowed) (a .removed) (held - a .removed + a .inserted) (c .propagate .result)
+    CarriedUp (a .store .now) (c .propagate .last .0) (a .code) (a .allowed) (a .removed) (c .propagate .result)
 carried c =
-    let w = c .before .before .before .before in
-    let counted = w .before in
-    let room = counted .before .before in
+    let path = c .before .before .before .before .before .before in
+    let w = path .before .before .before in
+    let room = w .before in
     let expected = room .before in
     let whole = expected .before .before in
-    carried-up (located (whole .before)) (whole .if1 .left) (w .wide2 .ensures) (alike _ _ (expected .if2 .left)) (not-false _ (room .if3 .left)) (counted .wide .ensures) _ (c .propagate .ensures)
-
--- the new number of pixels is a word's
-new-count : (c : tie.After-propagate)
-    → let w = c .before .before .before .before in
-    let held = w .before .wide .result in
-    let expected = w .before .before .before .before in
-    let whole = expected .before .before in
-    let l = whole .before .before .before .before .before in
-    let a = l .before .before .args in
-    (a .removed ≤ held) × (held - a .removed + a .inserted < 4294967296)
-new-count c =
-    let counted = c .before .before .before .before .before in
-    let room = counted .before .before in
-    let whole = room .before .before .before in
-    rw (counted .wide .ensures) (count-fits (located (whole .before)) (not-false _ (room .if3 .left)) (omega (arith, counted .before .slice-known2 .given 6)))
+    carried-up (located (whole .before)) (whole .if1 .left) (w .wide .ensures) (path .renumber-path .ensures) (alike _ _ (expected .if2 .left)) (not-false _ (room .if3 .left)) _ (c .propagate .ensures)
 
 -- the store is as long as it was
 still-long : (c : tie.After-propagate) → 8 ≤ length (c .propagate .last .0)
 still-long c =
-    let w = c .before .before .before .before in
-    let expected = w .before .before .before .before in
+    let path = c .before .before .before .before .before .before in
+    let expected = path .before .before .before .before .before in
     let whole = expected .before .before in
-    omega (arith, c .propagate .ensures .kept .long, located (whole .before) .can .given .0 .0 .long)
+    omega (arith, c .propagate .ensures .kept .long, path .renumber-path .ensures .long, located (whole .before) .can .given .0 .0 .long)
+
+returns-4 : tie.Need-returns-4
+returns-4 c = let p = c .before .before .before in rw (not-true (p .propagate .result) (c .if4 .taken)) at (carried p)
+
+returns-5 : tie.Need-returns-5
+returns-5 c = let p = c .before .before .before in rw (not-false (p .propagate .result) (c .if4 .left)) at (carried p)
 
 pub change-pixel-spec : {M : Type 1} → statement M
 change-pixel-spec =
@@ -116,16 +113,11 @@ change-pixel-spec =
     returns-2
     (λ c. search needs)
     returns-3
-    (λ c. search needs)
     (λ c κs. search needs)
-    (λ c κs. search needs)
+    renumber-path-requires
     propagate-requires
     (λ c. omega (arith, still-long (c .before .before .before)))
-    (λ c. search needs)
-    (λ c. let p = c .before .before .before in rw (not-true (p .propagate .result) (c .if4 .taken)) at (carried p))
-    (λ c. omega (arith, new-count (c .before .before .before)))
-    (λ c. omega (arith, new-count (c .before .before .before)))
-    (λ c. omega (arith, new-count (c .before .before .before)))
-    (λ c. omega (arith, still-long (c .before .before .before)))
-    (λ c. search needs)
-    (λ c. let p = c .before .before .before in rw (not-false (p .propagate .result) (c .if4 .left)) at (carried p)))
+    (λ c. returns-4 c .long)
+    returns-4
+    (λ c. returns-5 c .long)
+    returns-5)

@@ -2,7 +2,7 @@
 use borrow.Author.Needs.{needs}
 use borrow.Author.Tests.{ltb-true}
 use Rattle.update.specs.Changed.{goes}
-use Rattle.update.proofs.MarkAndClear.{cleared, not-marked, uncounted, damaged}
+use Rattle.update.proofs.MarkAndClear.{pixels-read, pixels-there, cleared, not-marked, uncounted, damaged}
 use Rattle.update.proofs.marks.clear.Statement.{statement}
 use Rattle.update.proofs.marks.clear.Tie as tie
 
@@ -25,8 +25,8 @@ pub clear-spec : {M : Type 1} → statement M
 clear-spec =
     tie.close
     (tie.spec
-    (λ c. search needs)
-    (λ c κs. record { given = c .before .before .before .pre; one = goes; allows = ltb-true _ _ })
+    (λ c. pixels-there (c .before .before .pre .0 .0))
+    (λ c κs. let s = c .before .before .before in record { given = s .pre; one = goes; allows = λ t. rw (pixels-read (s .pre .0 .0)) (ltb-true _ _ t) })
     (λ c κs. search needs)
     (λ c. search needs)
     (λ c. search needs)

@@ -2,7 +2,7 @@
 use borrow.Author.Needs.{needs}
 use borrow.Author.Tests.{ltb-true}
 use Rattle.update.specs.Changed.{comes}
-use Rattle.update.proofs.MarkAndClear.{marked, already-marked, full, damaged}
+use Rattle.update.proofs.MarkAndClear.{pixels-read, pixels-there, marked, already-marked, full, damaged}
 use Rattle.update.proofs.marks.mark.Statement.{statement}
 use Rattle.update.proofs.marks.mark.Tie as tie
 
@@ -25,8 +25,8 @@ pub mark-spec : {M : Type 1} → statement M
 mark-spec =
     tie.close
     (tie.spec
-    (λ c. search needs)
-    (λ c κs. record { given = c .before .before .before .before .pre; one = comes; allows = ltb-true _ _ })
+    (λ c. pixels-there (c .before .before .pre .0 .0))
+    (λ c κs. let s = c .before .before .before .before in record { given = s .pre; one = comes; allows = λ t. rw (pixels-read (s .pre .0 .0)) (ltb-true _ _ t) })
     (λ c κs. search needs)
     (λ c. search needs)
     (λ c. search needs)

@@ -1,0 +1,2 @@
+pub mod PartCorners
+pub mod WindowTests
