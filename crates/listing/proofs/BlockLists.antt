@@ -88,7 +88,7 @@ module _ (range : RangeQuery) {words : List ℕ} {element : Element} {level n m 
   block-skipped apart =
       walked-child e (λ k at fs low child.
       record {
-        counts = skipped-counts (range .corners) (list-opens (windowBetween (range .corners))) ordered one (child .view) tested apart;
+        counts = skipped-counts (range .corners) (list-opens (windowBetween (range .corners))) ordered one (skipped (child .view) tested ordered apart);
         wrote = λ room fits. rw (skipped (child .view) tested ordered apart .none-found) (sym (written-none before n));
       })
 

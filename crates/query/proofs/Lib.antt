@@ -5,4 +5,5 @@ pub mod Findings
 pub mod Counts
 pub mod WholeTree
 pub mod RootCount
+pub mod WholeCount
 pub mod Asks

@@ -1,20 +1,18 @@
 -- What the walk from the root answers is count's answer.
-use Prim.Native.Nat.{ℕ, _-_, _^_, _≤_, _<_, min}
+use Prim.Native.Nat.{ℕ, _-_, _^_, _≤_, min}
 use native.Mathlib.Omega.{arith}
 use mathlib.Core.Path.{_≡_, refl, ap, ap₂, sym, subst, subst₂, _∙_}
 use mathlib.Core.Logic.{inl, inr}
-use mathlib.Core.Bool.{true}
 use mathlib.Core.List.{List}
 use lib.ListN.{length}
 use Rattle.pktree.specs.Panel.{Panel}
 use Rattle.pktree.specs.PixelSet.{member}
-use Rattle.pktree.specs.Elements.{Forest, empty}
-use Rattle.pktree.specs.Tree.{tree as setTree, blockOf}
+use Rattle.pktree.specs.Elements.{Forest}
+use Rattle.pktree.specs.Tree.{tree as setTree}
 use Rattle.pktree.specs.Window as tree
-use Rattle.pktree.specs.Window.{found, Ordered, partOn, whollyInside, testedByWindow}
+use Rattle.pktree.specs.Window.{found, Ordered, partOn, crossedByWindow, testedByWindow}
 use Rattle.measures.specs.Sizes.{UsableStore, panelOf, slotCount, sizesOf}
 use Rattle.measures.specs.Layout.{LaidOut, LayoutWithin, layoutOf}
-use Rattle.measures.specs.Slot.{slotPart, numberWord}
 use Rattle.store.specs.Sound.{Holds}
 use Rattle.measures.specs.declared.sizes.Sizes.{Sizes}
 use Rattle.measures.specs.declared.sizes.Layout.{Layout}
@@ -33,8 +31,8 @@ use Rattle.answers.specs.Answer.{numberOf, countAnswer}
 use Rattle.windows.specs.declared.Corners.{Corners}
 use Rattle.windows.specs.declared.Part.{Part}
 use Rattle.windows.specs.declared.Part.the-variants.{Between, Empty}
-use Rattle.windows.specs.Corners.{windowBetween, PartBetween, PartCorners, PartOf, OnGrid}
-use Rattle.query.specs.Counting.{CanQuery, ofBlocks, Added, Counts, numbersOf, RootCounted, RootByNumbers, SumCase, SumWithin}
+use Rattle.windows.specs.Corners.{windowBetween, PartBetween, PartCorners, PartOf}
+use Rattle.query.specs.Counting.{CanQuery, ofBlocks, Added, Counts, numbersOf, RootCounted, SumCase, SumWithin}
 use Rattle.query.proofs.Opens.{Opens, count-opens}
 use Rattle.query.proofs.WholeTree.{between-ordered, whole-tree}
 
@@ -137,24 +135,11 @@ part-counted {opens} {words} {corners = corners} {sum = sum} {r = r} o given lai
     (of-root words (λ l z. RootCounted opens (rangeOf l z corners) words (z .order) sum) said laid root) (given .0 .0) r
     (of-root words (λ l z. SumWithin (rangeOf l z corners) sum r) said laid within .case)
 
--- count's own
+-- count's own, of a part that is not the whole panel
 pub count-counted : {words : List ℕ} {sizes : Sizes} {layout : Layout} {corners : Corners} {sum : Sum} {r : Counting}
-    → (UsableStore words × (sizes ≡ sizesOf words)) × PartCorners (panelOf sizes) corners → LaidOut sizes layout → RootByNumbers (rangeOf layout sizes corners) words (sizes .order) sum
+    → (UsableStore words × (sizes ≡ sizesOf words)) × PartCorners (panelOf sizes) corners → LaidOut sizes layout → RootCounted crossedByWindow (rangeOf layout sizes corners) words (sizes .order) sum
     → SumWithin (rangeOf layout sizes corners) sum r → calls.CountsIn words (windowBetween corners) (effect (countAnswer r) words words)
-count-counted {corners = corners} given laid root within = part-counted (count-opens (windowBetween corners)) given laid (record { counted = root .walk .counted }) within
-
--- 02, P6: on any words, a root's number above N is damage where the window has the whole panel
-module _ (range : RangeQuery) (words : List ℕ) {order : ℕ} {sum : Sum} (root : RootByNumbers range words order sum) where
-  pub number-above-refused : {r : Counting} → SumWithin range sum r → OnGrid order 0 → whollyInside (windowBetween (range .corners)) (blockOf order 0 empty) ≡ true → 0 < range .layout .slots
-      → range .most < numberWord (slotPart (range .layout .width) words 0) → countAnswer r ≡ refused 13
-  number-above-refused {r} within on inside some above = go r (within .case)
-    where
-      past : range .layout .slots < sum .opened
-      past = root .walk .passes on inside some (omega (arith, above))
-
-      go : (r : Counting) → SumCase range sum r → countAnswer r ≡ refused 13
-      go (Found f o) h = absurd (omega (arith, h .1, h .3, past))
-      go (Refused refusal) h = ap (λ (x : Refusal). refused (numberOf x)) (h .0)
+count-counted {corners = corners} = part-counted (count-opens (windowBetween corners))
 
 -- the walk of a part, and the answer where there is none
 module _ (words : List ℕ) {sizes : Sizes} (usable : UsableStore words × (sizes ≡ sizesOf words)) (window : tree.Window) {part : Part} (judged : PartOf (panelOf sizes) window part) where

@@ -28,8 +28,17 @@ pub record OverEdge (window : Window) (f es : Forest) : Type 0 where
   pub singly : testedByWindow window f ≡ size es + testedByWindow window es
 
 -- a block as the walks see it
-on-grid : {k width slots : ℕ} {words : List ℕ} {slot level code : ℕ} {es : Placed} → BlockView k width slots words slot level code es → OnGrid level code
+pub on-grid : {k width slots : ℕ} {words : List ℕ} {slot level code : ℕ} {es : Placed} → BlockView k width slots words slot level code es → OnGrid level code
 on-grid view = record { level-from = view .level-from; level-to = view .level-to; aligned = view .aligned; ends = view .ends }
+
+pub nothing-seen : {k width slots : ℕ} {words : List ℕ} {slot level code : ℕ} {es : Placed} {window : Window} → BlockView k width slots words slot level code es
+    → sharesPixel window (blockOf level code (unlabelled es)) ≡ false → NothingSeen window (block level code (unlabelled es) empty)
+nothing-seen {k} {level = level} {code = code} {es = es} {window = window} view = block-apart window k level code (unlabelled es) (local-unlabelled (view .right))
+
+pub edge-of : {window : Window} {level code : ℕ} {es : Forest} → sharesPixel window (blockOf level code es) ≡ true → whollyInside window (blockOf level code es) ≡ false
+    → OverEdge window (block level code es empty) es
+edge-of {window} {level} {code} {es} shares over =
+    record { opened = block-opened window level code es shares; crossed = edge-crossed window level code es shares over; singly = edge-tested window level code es shares over }
 
 module _ {k width slots : ℕ} {words : List ℕ} {slot level code : ℕ} {es : Placed} (view : BlockView k width slots words slot level code es) {corners : Corners} {b : Bool} where
   pub shares-as-tested : SharingTested corners level code b → Ordered (windowBetween corners) → sharesPixel (windowBetween corners) (blockOf level code (unlabelled es)) ≡ b
@@ -39,16 +48,11 @@ module _ {k width slots : ℕ} {words : List ℕ} {slot level code : ℕ} {es : 
   inside-as-tested tested = sym (tested .says (on-grid view) (unlabelled es))
 
   pub skipped : SharingTested corners level code b → Ordered (windowBetween corners) → b ≡ false → NothingSeen (windowBetween corners) (block level code (unlabelled es) empty)
-  skipped tested ordered e = block-apart (windowBetween corners) k level code (unlabelled es) (local-unlabelled (view .right)) (shares-as-tested tested ordered ∙ e)
+  skipped tested ordered e = nothing-seen view (shares-as-tested tested ordered ∙ e)
 
   pub all-seen : InsideTested corners level code b → b ≡ true → AllSeen (windowBetween corners) (block level code (unlabelled es) empty)
   all-seen tested e = block-inside (windowBetween corners) k level code (unlabelled es) (local-unlabelled (view .right)) (inside-as-tested tested ∙ e)
 
   pub over-edge : InsideTested corners level code b → b ≡ false → sharesPixel (windowBetween corners) (blockOf level code (unlabelled es)) ≡ true
       → OverEdge (windowBetween corners) (block level code (unlabelled es) empty) (unlabelled es)
-  over-edge tested e shares =
-      record {
-        opened = block-opened (windowBetween corners) level code (unlabelled es) shares;
-        crossed = edge-crossed (windowBetween corners) level code (unlabelled es) shares (inside-as-tested tested ∙ e);
-        singly = edge-tested (windowBetween corners) level code (unlabelled es) shares (inside-as-tested tested ∙ e);
-      }
+  over-edge tested e shares = edge-of shares (inside-as-tested tested ∙ e)

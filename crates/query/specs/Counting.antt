@@ -1,27 +1,27 @@
 -- What a window walk over a part of the tree answers.
 use Prim.Native.Nat.{ℕ, _+_, _^_, _≤_, _<_}
 use mathlib.Core.Path.{_≡_}
-use mathlib.Core.Bool.{true}
+use mathlib.Core.Bool.{true, false}
+use mathlib.Core.Logic.{_⊎_}
 use mathlib.Core.List.{List}
 use lib.ListN.{length}
 use Rattle.pktree.specs.Elements.{Forest, empty, pixel, block, unlabelled, size}
 use Rattle.pktree.specs.Tree.{blockOf, pixels}
 use Rattle.pktree.specs.Window as tree
 use Rattle.pktree.specs.Window.{found, Ordered, sharesPixel, whollyInside, crossedByWindow, testedByWindow}
-use Rattle.measures.specs.Sizes.{largestMost}
+use Rattle.measures.specs.Sizes.{largestMost, sizesOf, slotWidth}
 use Rattle.measures.specs.Layout.{LayoutFits, levelAboveRoot}
 use Rattle.measures.specs.Slot.{slotPart, numberWord}
-use Rattle.store.specs.Opening.{CannotOpen}
+use Rattle.store.specs.Opening.{CannotOpen, RootCannotOpen}
 use Rattle.store.specs.Placed.{Placed}
 use Rattle.store.proofs.BlockView.{BlockView}
-use Rattle.walks.proofs.Walks.{BlockWalked}
 use Rattle.query.specs.declared.walk.RangeQuery.{RangeQuery}
 use Rattle.query.specs.declared.walk.Sum.{Sum}
 use Rattle.answers.specs.declared.Refusal.the-variants.{StoreDamaged}
 use Rattle.answers.specs.declared.Counting.{Counting}
 use Rattle.answers.specs.declared.Counting.the-variants.{Found, Refused}
 use Rattle.windows.specs.declared.Corners.{Corners}
-use Rattle.windows.specs.Corners.{windowBetween, OnGrid}
+use Rattle.windows.specs.Corners.{windowBetween}
 
 -- what a walk makes of some elements: the codes that it finds, the blocks that it opens, the elements that it tests singly
 pub record Findings : Type 0 where
@@ -68,11 +68,13 @@ pub record BlockCounted (opens : tree.Window → Forest → ℕ) (range : RangeQ
   pub walked : SharingWalked (Counts (ofBlocks opens (windowBetween (range .corners))) (range .most) (range .layout .slots)) range words above slot level code s t
   pub closed : CannotOpen (range .layout .width) words slot level code → range .layout .slots < t .1
 
--- 02, P6: count's walk of a block; wholly inside the window, a number that passes N is damage
-pub record BlockByNumbers (range : RangeQuery) (words : List ℕ) (above slot level code : ℕ) (s t : ℕ × ℕ × ℕ) : Type 0 where
-  pub counted : BlockCounted crossedByWindow range words above slot level code s t
-  pub passes : OnGrid level code → whollyInside (windowBetween (range .corners)) (blockOf level code empty) ≡ true → slot < range .layout .slots
-      → range .most < s .0 + numberWord (slotPart (range .layout .width) words slot) → range .layout .slots < t .1
+-- 02, P6: a count opens only blocks over the window's edge
+pub record EdgeCounted (range : RangeQuery) (words : List ℕ) (above slot level code : ℕ) (s t : ℕ × ℕ × ℕ) : Type 0 where
+  pub walked : (k : ℕ) (es : Placed) → level < above → BlockView k (range .layout .width) (range .layout .slots) words slot level code es
+      → sharesPixel (windowBetween (range .corners)) (blockOf level code (unlabelled es)) ≡ true
+      → whollyInside (windowBetween (range .corners)) (blockOf level code (unlabelled es)) ≡ false
+      → Counts (ofBlocks crossedByWindow (windowBetween (range .corners))) (range .most) (range .layout .slots) s (block level code (unlabelled es) empty) t
+  pub closed : CannotOpen (range .layout .width) words slot level code → range .layout .slots < t .1
 
 -- from the root on
 abbrev pub numbersOf : Sum → ℕ × ℕ × ℕ
@@ -81,18 +83,26 @@ numbersOf sum = (sum .found, sum .opened, sum .tested)
 pub record RootCounted (opens : tree.Window → Forest → ℕ) (range : RangeQuery) (words : List ℕ) (order : ℕ) (r : Sum) : Type 0 where
   pub counted : BlockCounted opens range words levelAboveRoot 0 order 0 (0, 0, 0) (numbersOf r)
 
-pub record RootByNumbers (range : RangeQuery) (words : List ℕ) (order : ℕ) (r : Sum) : Type 0 where
-  pub walk : BlockByNumbers range words levelAboveRoot 0 order 0 (0, 0, 0) (numbersOf r)
+-- 02, P6: the number that the slot of a block says is added; or this is damage: there is no such block, or N is passed
+abbrev pub NumberCase : RangeQuery → List ℕ → ℕ → ℕ → ℕ → ℕ → ℕ → ℕ → ℕ → ℕ → Type 0
+NumberCase range words above slot level code found opened after r =
+    ((r ≡ opened) × (after ≡ found + numberWord (slotPart (range .layout .width) words slot)) × (after ≤ range .most) × (CannotOpen (range .layout .width) words slot level code → ⊥))
+    ⊎ ((range .layout .slots < r)
+    × (slot < range .layout .slots → level < above → (CannotOpen (range .layout .width) words slot level code → ⊥) → range .most < found + numberWord (slotPart (range .layout .width) words slot)))
 
--- 02, P6: what is added of elements that are not opened: their pixels, while these are no more than may be
-pub record PixelsAdded (most : ℕ) (s : ℕ × ℕ) (f : Forest) (t : ℕ × ℕ) : Type 0 where
-  pub says : s .0 + length (pixels f) ≤ most → (t .0 ≡ s .0 + length (pixels f)) × (t .1 ≡ s .1)
-
--- a block is taken by the number that its slot says; a number that passes N is damage
 pub record NumberTaken (range : RangeQuery) (words : List ℕ) (above slot level code found opened after r : ℕ) : Type 0 where
-  pub taken : BlockWalked (PixelsAdded (range .most)) (range .layout) words above slot level code (found, opened) (after, r)
-  pub closed : CannotOpen (range .layout .width) words slot level code → range .layout .slots < r
-  pub passes : slot < range .layout .slots → range .most < found + numberWord (slotPart (range .layout .width) words slot) → range .layout .slots < r
+  pub case : NumberCase range words above slot level code found opened after r
+
+-- the same of the root, and so of the whole panel
+abbrev pub rootPart : List ℕ → List ℕ
+rootPart words = slotPart (slotWidth (sizesOf words .k)) words 0
+
+abbrev pub WholeCase : List ℕ → Counting → Type 0
+WholeCase words (Found f o) = (f ≡ numberWord (rootPart words)) × (o ≡ 0) × (f ≤ sizesOf words .most) × (RootCannotOpen words → ⊥)
+WholeCase words (Refused refusal) = (refusal ≡ StoreDamaged) × ((RootCannotOpen words → ⊥) → sizesOf words .most < numberWord (rootPart words))
+
+pub record WholeCounted (words : List ℕ) (r : Counting) : Type 0 where
+  pub case : WholeCase words r
 
 -- what is found of a pixel
 abbrev pub foundOf : Corners → ℕ → List ℕ

@@ -1,33 +1,40 @@
 ghost use mathlib.Core.Path.{_≡_};
+ghost use mathlib.Core.Bool.{false};
+ghost use Rattle.pktree.specs.Window.{crossedByWindow};
 ghost use Rattle.measures.specs.Layout.{LayoutFits};
 ghost use Rattle.measures.specs.Sizes.{UsableStore, sizesOf, panelOf};
 ghost use Rattle.promises.specs.Effect.{effect};
 ghost use Rattle.promises.specs.Calls as calls;
 ghost use Rattle.answers.specs.Answer.{countAnswer};
-ghost use Rattle.windows.specs.Corners.{windowOf, windowBetween, PartCorners};
-ghost use Rattle.query.specs.Counting.{CanQuery, PixelCounted, NumberTaken, BlockByNumbers, RootByNumbers};
+ghost use Rattle.windows.specs.Corners.{windowOf, windowBetween, PartCorners, InsideTested};
+ghost use Rattle.query.specs.Counting.{CanQuery, PixelCounted, NumberTaken, EdgeCounted, RootCounted, WholeCounted};
 use crate::walk::RangeQuery;
 use crate::walk::Sum;
 use crate::walk::open_next;
 use crate::walk::within;
 use answers::Counting;
+use answers::Refusal;
 use measures::sizes::Sizes;
 use measures::sizes::layout_of;
 use measures::slots::LEVEL_ABOVE_ROOT;
 use measures::slots::MORE_THAN_SLOTS;
 use measures::slots::NUMBER;
+use measures::slots::slot_part;
 use std::num::wrapping_add_u32;
 use store::elements::Element;
 use store::elements::element_at;
 use store::opening::Opening;
+use store::opening::open_part;
 use walks::enter;
 use walks::part_of;
 use windows::Corners;
+use windows::Lying;
 use windows::Part;
 use windows::Window;
+use windows::has_panel;
 use windows::has_pixel;
+use windows::lies;
 use windows::lies_inside;
-use windows::meets;
 use windows::part_on;
 
 // More pixels than a word counts are met on damaged words only.
@@ -70,7 +77,7 @@ fn take_number(
     blocks
 }
 
-// A block that shares a pixel with the window. Its corners are compared with the window's once, so that only in a block over the edge each element is tested.
+// A block over the window's edge: each of its elements is tested. A block among them that lies wholly inside is taken by its number.
 fn count_block(
     store: &[u32],
     range: RangeQuery,
@@ -83,13 +90,10 @@ fn count_block(
     tested: &mut u32,
 ) -> u32
     requires { ⌜ CanQuery range (now store) ⌝ }
-    ensures { λ r. ⌜ BlockByNumbers range (now (store .entry)) above slot level code (now (found .entry), blocks, now (tested .entry)) (now (found .exit), r, now (tested .exit)) ⌝ }
+    ensures { λ r. ⌜ EdgeCounted range (now (store .entry)) above slot level code (now (found .entry), blocks, now (tested .entry)) (now (found .exit), r, now (tested .exit)) ⌝ }
 {
     let layout = range.layout;
     let corners = range.corners;
-    if lies_inside(corners, level, code) {
-        return take_number(store, range, above, slot, level, code, blocks, found);
-    }
     let Opening::Elements(count) = open_next(store, layout, above, slot, level, code, blocks) else {
         return MORE_THAN_SLOTS;
     };
@@ -99,19 +103,21 @@ fn count_block(
         *tested = wrapping_add_u32(*tested, 1);
         match element_at(part, i) {
             Element::Pixel(c) => *found = count_pixel(corners, c, *found),
-            Element::Block(s, l, c) => {
-                if meets(corners, l, c) {
+            Element::Block(s, l, c) => match lies(corners, l, c) {
+                Lying::Apart => {}
+                Lying::Inside => opened = take_number(store, range, level, s, l, c, opened, found),
+                Lying::OverEdge => {
                     opened = count_block(store, range, level, s, l, c, opened, found, tested);
                 }
-            }
+            },
         }
     }
     opened
 }
 
 fn count_root(store: &[u32], range: RangeQuery, order: u32) -> Sum
-    requires { ⌜ CanQuery range (now store) ⌝ }
-    ensures { λ r. ⌜ RootByNumbers range (now (store .entry)) order r ⌝ }
+    requires { ⌜ CanQuery range (now store) × InsideTested (range .corners) order 0 false ⌝ }
+    ensures { λ r. ⌜ RootCounted crossedByWindow range (now (store .entry)) order r ⌝ }
 {
     let mut found = 0;
     let mut tested = 0;
@@ -133,25 +139,49 @@ fn count_root(store: &[u32], range: RangeQuery, order: u32) -> Sum
     }
 }
 
+// 02, P6: the whole panel is the root's number, and no block is opened.
+fn count_whole(store: &[u32], sizes: Sizes) -> Counting
+    requires { ⌜ UsableStore (now store) × (sizes ≡ sizesOf (now store)) ⌝ }
+    ensures { λ r. ⌜ WholeCounted (now (store .entry)) r ⌝ }
+{
+    let root = slot_part(store, layout_of(sizes), 0);
+    let Opening::Elements(_) = open_part(root, sizes.order, 0) else {
+        return Counting::Refused(Refusal::StoreDamaged);
+    };
+    let number = root[NUMBER];
+    if sizes.most < number {
+        return Counting::Refused(Refusal::StoreDamaged);
+    }
+    Counting::Found {
+        found: number,
+        opened: 0,
+    }
+}
+
 // The count of a part of the panel, by its corners.
 pub fn count_part(store: &[u32], sizes: Sizes, corners: Corners) -> Counting
     requires { ⌜ (UsableStore (now store) × (sizes ≡ sizesOf (now store))) × PartCorners (panelOf sizes) corners ⌝ }
     ensures { λ r. ⌜ calls.CountsIn (now (store .entry)) (windowBetween corners) (effect (countAnswer r) (now (store .entry)) (now (store .entry))) ⌝ }
 {
-    let layout = layout_of(sizes);
+    if lies_inside(corners, sizes.order, 0) {
+        return count_whole(store, sizes);
+    }
     let range = RangeQuery {
-        layout,
+        layout: layout_of(sizes),
         corners,
         most: sizes.most,
     };
     within(range, count_root(store, range, sizes.order))
 }
 
-// 01's count of the window's part on the panel, where refusal 3 does not apply.
+// 01's count of the window's part on the panel, where refusal 3 does not apply. A window that has the whole panel needs no codes of its corners.
 pub fn count(store: &[u32], sizes: Sizes, window: Window) -> Counting
     requires { ⌜ UsableStore (now store) × (sizes ≡ sizesOf (now store)) ⌝ }
     ensures { λ r. ⌜ calls.Counts (now (store .entry)) (windowOf window) (effect (countAnswer r) (now (store .entry)) (now (store .entry))) ⌝ }
 {
+    if has_panel(sizes, window) {
+        return count_whole(store, sizes);
+    }
     let Part::Between(corners) = part_on(sizes, window) else {
         return Counting::Found {
             found: 0,

@@ -12,15 +12,15 @@ use Rattle.store.specs.Opening.{HeaderSays}
 use Rattle.store.proofs.OpenedSlot.{few-elements}
 use Rattle.store.specs.Element.{elementAt}
 use Rattle.store.specs.Placed.{Placed}
-use Rattle.soundness.specs.declared.pass.Pass.{Pass}
-use Rattle.soundness.specs.declared.pass.Passing.{Passing}
-use Rattle.soundness.specs.declared.pass.Passing.the-variants.{On, Refused}
+use Rattle.inspection.specs.declared.pass.Pass.{Pass}
+use Rattle.inspection.specs.declared.pass.Passing.{Passing}
+use Rattle.inspection.specs.declared.pass.Passing.the-variants.{On, Refused}
+use Rattle.inspection.specs.Pass.{firstPass, entryOf, PassMeets}
 use Rattle.soundness.specs.declared.walk.Claim.{Claim}
 use Rattle.soundness.specs.declared.walk.Limits.{Limits}
 use Rattle.soundness.specs.declared.walk.Seen.{Seen}
 use Rattle.soundness.specs.declared.walk.Walked.{Walked}
 use Rattle.soundness.specs.declared.walk.Walked.the-variants.{Whole, Unsound}
-use Rattle.soundness.specs.Pass.{firstPass, entryOf, PassMeets}
 use Rattle.soundness.specs.Walk.{CanWalk, WithinLimits, seenWith, claimed, NoneClaimed, BlockOpened, OpenMeets, BlockWalked, CanWalkElement, ElementWalked, WalkElementMeets}
 use Rattle.soundness.proofs.SeenParts.{seen-block}
 use Rattle.soundness.proofs.WalkedTo.{partOf, WalkedTo, walked-none, walked-one}

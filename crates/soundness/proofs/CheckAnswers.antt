@@ -28,8 +28,8 @@ use Rattle.measures.proofs.Bounds.{slot-count-bounded}
 use Rattle.store.proofs.FreeChains.{one-chain}
 use Rattle.store.proofs.BlockNumbers.{OwnPixels, own-whole, block-right, tree-right, numbered-by-used}
 use Rattle.store.proofs.Standing.{depth, complete-slot, depth-below-level, every-right, every-join}
+use Rattle.inspection.specs.Chain.{ChainOf, ChainEnds, NoEnd}
 use Rattle.soundness.specs.declared.walk.Seen.{Seen}
-use Rattle.soundness.specs.Chain.{ChainOf, ChainEnds, NoEnd}
 use Rattle.soundness.specs.Walk.{BlockWalked, NoneClaimed}
 use Rattle.soundness.proofs.OneReading.{one-reading}
 use Rattle.store.proofs.SlotTotals.{shared-length, shared-of-length}

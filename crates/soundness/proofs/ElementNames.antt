@@ -10,7 +10,7 @@ use Rattle.store.specs.declared.elements.Element.the-variants.{Pixel, Block}
 use Rattle.store.specs.Element.{elementOf, blockTag, tagLevel, tagSlot}
 use Rattle.store.specs.Placed.{Placed}
 use Rattle.store.proofs.Standing.{elementWords}
-use Rattle.soundness.specs.Pass.{entryOf}
+use Rattle.inspection.specs.Pass.{entryOf}
 use Rattle.soundness.specs.Walk.{Names}
 
 pub names-words : (code tag : ℕ) (t : Placed) → Names (elementOf code tag) t → elementWords t ≡ code ∷ tag ∷ []

@@ -1,4 +1,3 @@
-pub mod PassSteps
 pub mod ElementNames
 pub mod OneReading
 pub mod RightParts
@@ -8,7 +7,6 @@ pub mod WalkedTo
 pub mod WalkRefusals
 pub mod BlockWalks
 pub mod ElementWalks
-pub mod ChainFollowed
 pub mod SlotsOnce
 pub mod RootSlots
 pub mod RootWalks

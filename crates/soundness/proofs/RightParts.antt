@@ -11,7 +11,7 @@ use Rattle.pktree.proofs.LocalTest.{heads, slotTest, insideTest, both}
 use Rattle.store.specs.Placed.{Placed, slotsOf}
 use Rattle.store.proofs.Standing.{every-left, every-right, every-join}
 use Rattle.store.proofs.PlacedJoin.{slots-join, stands-join, stands-parts}
-use Rattle.store.proofs.BlockNumbers.{TreeNumbers, tree-numbers-parts}
+use Rattle.store.proofs.BlockNumbers.{tree-numbers-join, tree-numbers-parts}
 use Rattle.soundness.specs.declared.walk.Limits.{Limits}
 use Rattle.soundness.specs.declared.walk.Claim.{Claim}
 use Rattle.soundness.specs.Walk.{StandsRight, BlockAt}
@@ -21,11 +21,6 @@ inside-join k empty g = refl
 inside-join k (pixel c f) g = inside-join k f g
 inside-join k (blockAt v zero c es f) g = refl
 inside-join k (blockAt v (suc i) c es f) g = rw (inside-join k f g, and-assoc, and-assoc, and-assoc)
-
-tree-numbers-join : (width : ℕ) (words : List ℕ) (a b : Placed) → TreeNumbers width words a → TreeNumbers width words b → TreeNumbers width words (a ⧺ b)
-tree-numbers-join width words empty b p q = q
-tree-numbers-join width words (pixel c a) b p q = tree-numbers-join width words a b p q
-tree-numbers-join width words (blockAt s i c es a) b p q = (p .0, p .1, tree-numbers-join width words a b (p .2) q)
 
 module _ {limits : Limits} {words : List ℕ} where
   pub right-join : (a b : Placed) → StandsRight limits words a → StandsRight limits words b → StandsRight limits words (a ⧺ b)

@@ -16,12 +16,12 @@ use Rattle.measures.specs.Slot.{countWord, numberWord}
 use Rattle.store.specs.Opening.{HeaderSays}
 use Rattle.store.specs.Placed.{Placed}
 use Rattle.store.proofs.BlockView.{element-pixel, element-block}
-use Rattle.soundness.specs.declared.pass.Pass.{Pass}
-use Rattle.soundness.specs.declared.pass.Passing.the-variants.{Refused}
+use Rattle.inspection.specs.declared.pass.Pass.{Pass}
+use Rattle.inspection.specs.declared.pass.Passing.the-variants.{Refused}
+use Rattle.inspection.specs.Pass.{entryOf, PassMeets}
 use Rattle.soundness.specs.declared.walk.Claim.{Claim}
 use Rattle.soundness.specs.declared.walk.Limits.{Limits}
 use Rattle.soundness.specs.declared.walk.Seen.{Seen}
-use Rattle.soundness.specs.Pass.{entryOf, PassMeets}
 use Rattle.soundness.specs.Walk.{WithinLimits, seenWith, StandsRight, BlockAt, Names, NoneNamed}
 use Rattle.soundness.proofs.ElementNames.{names-head}
 use Rattle.soundness.proofs.OneReading.{Begins, begins}

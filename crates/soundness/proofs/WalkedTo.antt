@@ -16,12 +16,12 @@ use Rattle.measures.specs.Slot.{slotPart, elementPart, elementIndex}
 use Rattle.store.specs.Placed.{Placed}
 use Rattle.store.proofs.Standing.{elementWords}
 use Rattle.store.proofs.PlacedJoin.{words-join}
-use Rattle.soundness.specs.declared.pass.Pass.{Pass}
-use Rattle.soundness.specs.declared.pass.Passing.the-variants.{On}
+use Rattle.inspection.specs.declared.pass.Pass.{Pass}
+use Rattle.inspection.specs.declared.pass.Passing.the-variants.{On}
+use Rattle.inspection.specs.Pass.{firstPass, entryOf, PassMeets}
 use Rattle.soundness.specs.declared.walk.Claim.{Claim}
 use Rattle.soundness.specs.declared.walk.Limits.{Limits}
 use Rattle.soundness.specs.declared.walk.Seen.{Seen}
-use Rattle.soundness.specs.Pass.{firstPass, entryOf, PassMeets}
 use Rattle.soundness.specs.Walk.{seenWith, StandsRight, Names, ElementWalked}
 use Rattle.soundness.proofs.ElementNames.{names-words, names-head, names-one}
 use Rattle.soundness.proofs.RightParts.{right-nothing, right-join}

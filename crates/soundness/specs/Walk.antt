@@ -19,12 +19,12 @@ use Rattle.store.proofs.BlockNumbers.{TreeNumbers}
 use Rattle.store.specs.declared.opening.Opening.{Opening}
 use Rattle.store.specs.declared.opening.Opening.the-variants.{Elements, Damaged}
 use Rattle.store.specs.Opening.{HeaderSays}
+use Rattle.inspection.specs.Pass.{entryOf}
 use Rattle.soundness.specs.declared.walk.Claim.{Claim}
 use Rattle.soundness.specs.declared.walk.Limits.{Limits}
 use Rattle.soundness.specs.declared.walk.Seen.{Seen}
 use Rattle.soundness.specs.declared.walk.Walked.{Walked}
 use Rattle.soundness.specs.declared.walk.Walked.the-variants.{Whole, Unsound}
-use Rattle.soundness.specs.Pass.{entryOf}
 
 -- what every part of the walk may rely on, on any words
 pub record CanLook (limits : Limits) (words : List ℕ) : Type 0 where

@@ -1,9 +1,9 @@
 ghost use Prim.Native.Nat.{_≤_};
 ghost use Rattle.soundness.specs.Walk.{CanWalk, OpenMeets, WalkMeets, CanWalkElement, WalkElementMeets, WithinLimits, PixelMeets};
-use crate::pass::Passing;
-use crate::pass::block_end;
-use crate::pass::first_pass;
-use crate::pass::pass_element;
+use inspection::pass::Passing;
+use inspection::pass::block_end;
+use inspection::pass::first_pass;
+use inspection::pass::pass_element;
 use measures::sizes::Layout;
 use measures::slots::NUMBER;
 use measures::slots::slot_part;

@@ -1,2 +1,3 @@
 pub mod PartCorners
 pub mod WindowTests
+pub mod LyingTests

@@ -2,7 +2,7 @@
 ghost use Prim.Native.Nat.{min};
 ghost use mathlib.Core.Path.{_≡_};
 ghost use Rattle.measures.specs.Sizes.{ValidSizes, panelOf};
-ghost use Rattle.windows.specs.Corners.{windowOf, PartOf, PixelTested, SharingTested, InsideTested};
+ghost use Rattle.windows.specs.Corners.{windowOf, PartOf, PixelTested, SharingTested, InsideTested, LyingTested, PanelTested};
 use measures::sizes::Sizes;
 use morton::last_code;
 use morton::x_at_most;
@@ -98,4 +98,41 @@ pub fn lies_inside(corners: Corners, level: u32, code: u32) -> bool
         return false;
     }
     y_at_most(last, corners.last)
+}
+
+// How a block lies to the window.
+pub enum Lying {
+    Apart,
+    OverEdge,
+    Inside,
+}
+
+pub fn lies(corners: Corners, level: u32, code: u32) -> Lying
+    ensures { λ r. ⌜ LyingTested corners level code r ⌝ }
+{
+    if !meets(corners, level, code) {
+        return Lying::Apart;
+    }
+    if lies_inside(corners, level, code) {
+        return Lying::Inside;
+    }
+    Lying::OverEdge
+}
+
+// 02, P6: whether the window has the whole panel, so that no code needs to be made of its corners.
+pub fn has_panel(sizes: Sizes, window: Window) -> bool
+    requires { ⌜ ValidSizes sizes ⌝ }
+    ensures { λ r. ⌜ PanelTested sizes window r ⌝ }
+{
+    if 0 < window.x0 {
+        return false;
+    }
+    if 0 < window.y0 {
+        return false;
+    }
+    let far = (1u32 << sizes.order) - 1;
+    if window.x1 < far {
+        return false;
+    }
+    far <= window.y1
 }

@@ -9,15 +9,14 @@ use Rattle.windows.specs.Corners.{windowBetween}
 use Rattle.query.proofs.Opens.{count-opens}
 use Rattle.query.proofs.Openings.{next-below, next-begins, next-fits}
 use Rattle.query.proofs.Findings.{elements-additive, count-walk}
-use Rattle.query.proofs.Counts.{CountsElements, numbers-are, pixel-counted, block-skipped, block-counted, count-inside, count-barred, count-whole}
+use Rattle.query.proofs.Counts.{CountsElements, numbers-are, pixel-counted, block-skipped, block-counted, block-taken, count-barred, count-whole}
 use Rattle.query.proofs.count.count_block.Kinds as kinds
 use Rattle.query.proofs.count.count_block.Reads as reads
 use Rattle.query.proofs.count.+count_block.Lts-count_block as lts
 use Rattle.query.proofs.count.take_number.Reads as take-number
 use Rattle.query.proofs.count.count_pixel.Reads as count-pixel
 use Rattle.query.proofs.walk.open_next.Reads as open-next
-use Rattle.windows.proofs.lies_inside.Reads as lies-inside
-use Rattle.windows.proofs.meets.Reads as meets
+use Rattle.windows.proofs.lies.Reads as lies
 use Rattle.std.proofs.num.wrapping_add_u32.Reads as wrapping-add
 use Rattle.walks.proofs.part_of.Reads as part-of
 use Rattle.store.proofs.elements.element_at.Reads as element-at
@@ -36,11 +35,8 @@ abbrev μ-loop : lts.MeasureT-loop
 
 pub +count-block-spec : {M : Type 1} → statement M
 +count-block-spec = close μ-block λ t. lts.spec
-    (_, lies-inside.Learnt, _, take-number.Learnt, _, open-next.Learnt, _, part-of.Learnt, _, wrapping-add.Learnt, _, element-at.Learnt, _, count-pixel.Learnt, _, meets.Learnt, _, reads.Post) _ reads.Post
+    (_, open-next.Learnt, _, part-of.Learnt, _, wrapping-add.Learnt, _, element-at.Learnt, _, count-pixel.Learnt, _, lies.Learnt, _, take-number.Learnt, _, reads.Post) _ reads.Post
     Inv-loop μ-loop
-    (λ c κs. search needs)
-    (λ c κs. search needs)
-    (λ c. search (needs, count-inside))
     (λ c κs. search needs)
     (λ c. c .match .keys1)
     (λ c. c .match .keys2)
@@ -49,7 +45,7 @@ pub +count-block-spec : {M : Type 1} → statement M
     (λ c. search (needs, next-fits))
     (λ c.
     let o = c .before .before .before .before in
-    let a = o .before .before .before .before .before .before .args in
+    let a = o .before .before .before .before .args in
     next-begins (o .open-next .ensures) (c .before .before .count .given .1) (c .part-of .ensures) (count-walk (elements-additive (count-opens (windowBetween (a .range .corners))))))
     (λ c κs. search needs)
     (λ c κs. let turn = c .before .before in element-there (turn .before .loop .inv) (turn .loop-test .taken))
@@ -57,6 +53,10 @@ pub +count-block-spec : {M : Type 1} → statement M
     (λ c κs. search needs)
     (λ c. c .match2 .keys2)
     (λ c κs. search needs)
+    (λ c. c .match3 .keys1)
+    (λ c. c .match3 .keys2)
+    (λ c κs. search needs)
+    (λ c. c .match3 .keys3)
     (λ c κs. search needs)
     (λ c. let turn = c .before .before .before .before in turn-fits (turn .before .loop .inv) (turn .loop-test .taken))
     (λ c. fewer-left (c .before .before .before .before .loop-test .taken))
@@ -68,14 +68,14 @@ pub +count-block-spec : {M : Type 1} → statement M
     let is = c .before .element-at .ensures in
     let one = test .wrapping-add-u32 .ensures in
     let begun = turn .before .before .before .before .before .before in
-    let start = begun .before .before .before .before .before .before in
+    let start = begun .before .before .before .before in
     let range = start .args .range in
     let opens = count-opens (windowBetween (range .corners)) in
     let walk = count-walk (elements-additive opens) in
     let can = start .pre .1 in
-    let ordered = can .ordered in
-    ⊎-elim (λ w. turns-pixel l below is (numbers-are (w .5) (w .7) (w .6)) walk (w .1 .given .1) (pixel-counted (range .corners) opens ordered one (can .most-to) (w .4 .ensures)))
-    (⊎-elim (λ w. loop-turns l below is (numbers-are (w .8) (w .10) (w .9)) walk (block-counted range ordered one (w .1 .given .1) (w .3 .ensures) (w .4 .taken) (w .7 .ensures)))
-    (λ w. loop-turns l below is (numbers-are (w .5) (w .7) (w .6)) walk (block-skipped range ordered one (w .1 .given .1) (w .3 .ensures) (w .4 .left))))
+    ⊎-elim (λ w. turns-pixel l below is (numbers-are (w .5) (w .7) (w .6)) walk (w .1 .given .1) (pixel-counted (range .corners) opens (can .ordered) one (can .most-to) (w .4 .ensures)))
+    (⊎-elim (λ w. loop-turns l below is (numbers-are (w .6) (w .8) (w .7)) walk (block-skipped range can one (w .1 .given .1) (w .3 .ensures) (w .5 .given .1)))
+    (⊎-elim (λ w. loop-turns l below is (numbers-are (w .8) (w .10) (w .9)) walk (block-taken range can one (w .1 .given .1) (w .3 .ensures) (w .5 .given .1) (w .7 .ensures)))
+    (λ w. loop-turns l below is (numbers-are (w .9) (w .11) (w .10)) walk (block-counted range can one (w .1 .given .1) (w .3 .ensures) (w .5 .given .1) (w .8 .ensures)))))
     (c .match2 .came))
     (λ c. search (needs, count-whole))

@@ -4,6 +4,9 @@ use native.Mathlib.Omega.{arith}
 use borrow.Author.Needs.{needs}
 use borrow.Fn.PlainCycle.{Measures}
 use mathlib.Core.Path.{_≡_}
+use Rattle.inspection.proofs.pass.block_end.Reads as block-end
+use Rattle.inspection.proofs.pass.first_pass.Reads as first-pass
+use Rattle.inspection.proofs.pass.pass_element.Reads as pass-element
 use Rattle.soundness.proofs.BlockWalks.{InBlock, not-opened, block-begins, element-there, next-fits, refused-at, element-can, unsound-at, next-walked, number-there, pixels-grow, misnumbered, too-long, block-whole}
 use Rattle.soundness.proofs.ElementWalks.{level-zero, past-slots, child-can, child-falls, pixel-walked, block-walked}
 use Rattle.soundness.proofs.walk.walk_block.Reads as walk-block
@@ -12,9 +15,6 @@ use Rattle.soundness.proofs.walk.+walk_block+walk_element.Lts-walk_bloc
 use Rattle.soundness.proofs.walk.walk_element.Reads as walk-element
 use Rattle.soundness.proofs.walk.walk_element.Kinds as walk-element-kinds
 use Rattle.soundness.proofs.walk.+walk_block+walk_element.Lts-walk_element as walk-element-lts
-use Rattle.soundness.proofs.pass.block_end.Reads as block-end
-use Rattle.soundness.proofs.pass.first_pass.Reads as first-pass
-use Rattle.soundness.proofs.pass.pass_element.Reads as pass-element
 use Rattle.soundness.proofs.walk.open_block.Reads as open-block
 use Rattle.soundness.proofs.walk.see_pixel.Reads as see-pixel
 use Rattle.store.proofs.elements.element_at.Reads as element-at

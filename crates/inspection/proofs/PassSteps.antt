@@ -9,9 +9,9 @@ use Rattle.morton.proofs.Blocks.{size-to}
 use Rattle.pktree.proofs.Alignment.{pow-pos}
 use Rattle.pktree.specs.Entries.{entry}
 use Rattle.pktree.proofs.LocalTest.{tally}
-use Rattle.soundness.specs.declared.pass.Pass.{Pass}
-use Rattle.soundness.specs.declared.pass.Passing.the-variants.{On, Refused}
-use Rattle.soundness.specs.Pass.{PassMeets}
+use Rattle.inspection.specs.declared.pass.Pass.{Pass}
+use Rattle.inspection.specs.declared.pass.Passing.the-variants.{On, Refused}
+use Rattle.inspection.specs.Pass.{PassMeets}
 
 pub met-same : {q r : ℕ} (n : ℕ) → q ≡ r → n + 1 ≡ tally (eqb q r) n
 met-same {q} {r} n e = rw (eq-eqb q r e, add-one)

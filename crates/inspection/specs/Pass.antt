@@ -7,9 +7,9 @@ use Rattle.pktree.specs.Entries.{Entry, entry}
 use Rattle.pktree.proofs.LocalTest.{passTest}
 use Rattle.store.specs.declared.elements.Element.{Element}
 use Rattle.store.specs.declared.elements.Element.the-variants.{Pixel, Block}
-use Rattle.soundness.specs.declared.pass.Pass.{Pass}
-use Rattle.soundness.specs.declared.pass.Passing.{Passing}
-use Rattle.soundness.specs.declared.pass.Passing.the-variants.{On, Refused}
+use Rattle.inspection.specs.declared.pass.Pass.{Pass}
+use Rattle.inspection.specs.declared.pass.Passing.{Passing}
+use Rattle.inspection.specs.declared.pass.Passing.the-variants.{On, Refused}
 
 -- level and code of an element, a pixel's level being 0
 abbrev pub entryOf : Element → Entry

@@ -1,7 +1,7 @@
--- `soundness::pass::pass_element` meets its contract: a pixel is an entry of level 0.
+-- `inspection::pass::pass_element` meets its contract: a pixel is an entry of level 0.
 use borrow.Author.Needs.{needs}
-use Rattle.soundness.proofs.pass.pass_element.Statement.{statement}
-use Rattle.soundness.proofs.pass.pass_element.Tie as tie
+use Rattle.inspection.proofs.pass.pass_element.Statement.{statement}
+use Rattle.inspection.proofs.pass.pass_element.Tie as tie
 
 returns : tie.Need-returns
 returns c = rw (c .before .before .element .given .1) (c .pass-entry .ensures)

@@ -6,8 +6,8 @@ use lib.ListN.{length}
 use Rattle.pktree.specs.Lists.{Every}
 use Rattle.measures.specs.declared.sizes.Layout.{Layout}
 use Rattle.store.specs.FreeSlots.{FreeSlots}
-use Rattle.soundness.specs.declared.chain.Chain.{Chain}
-use Rattle.soundness.specs.declared.chain.Chain.the-variants.{Ends, Broken}
+use Rattle.inspection.specs.declared.chain.Chain.{Chain}
+use Rattle.inspection.specs.declared.chain.Chain.the-variants.{Ends, Broken}
 
 -- the chain of free slots, of slots that there are
 pub record ChainOf (layout : Layout) (words free : List ℕ) : Type 0 where

@@ -1,9 +1,9 @@
--- `soundness::pass::pass_entry` meets its contract: each test that fails refuses at one place of the one-pass test, and all together go on.
+-- `inspection::pass::pass_entry` meets its contract: each test that fails refuses at one place of the one-pass test, and all together go on.
 use borrow.Author.Needs.{needs}
 use native.Mathlib.Omega.{arith}
-use Rattle.soundness.proofs.PassSteps.{some-codes, few-codes, starts-too-low, too-large, not-aligned, quarter-full, goes-on}
-use Rattle.soundness.proofs.pass.pass_entry.Statement.{statement}
-use Rattle.soundness.proofs.pass.pass_entry.Tie as tie
+use Rattle.inspection.proofs.PassSteps.{some-codes, few-codes, starts-too-low, too-large, not-aligned, quarter-full, goes-on}
+use Rattle.inspection.proofs.pass.pass_entry.Statement.{statement}
+use Rattle.inspection.proofs.pass.pass_entry.Tie as tie
 
 pub pass-entry-spec : {M : Type 1} → statement M
 pass-entry-spec =

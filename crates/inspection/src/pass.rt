@@ -3,7 +3,7 @@ ghost use mathlib.Core.Path.{_≡_};
 ghost use lib.Dec.{eqb};
 ghost use Rattle.pktree.specs.Entries.{entry};
 ghost use Rattle.pktree.proofs.LocalTest.{tally};
-ghost use Rattle.soundness.specs.Pass.{CanPass, PassMeets, entryOf, firstPass};
+ghost use Rattle.inspection.specs.Pass.{CanPass, PassMeets, entryOf, firstPass};
 use morton::block_size;
 use store::elements::Element;
 

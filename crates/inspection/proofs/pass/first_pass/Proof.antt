@@ -1,9 +1,9 @@
--- `soundness::pass::first_pass` meets its contract.
+-- `inspection::pass::first_pass` meets its contract.
 use borrow.Author.Needs.{needs}
 use native.Mathlib.Omega.{arith}
 use Rattle.pktree.proofs.Alignment.{pow-pos}
-use Rattle.soundness.proofs.pass.first_pass.Statement.{statement}
-use Rattle.soundness.proofs.pass.first_pass.Tie as tie
+use Rattle.inspection.proofs.pass.first_pass.Statement.{statement}
+use Rattle.inspection.proofs.pass.first_pass.Tie as tie
 
 div-t5 : tie.Need-div-t5
 div-t5 c = omega (arith, c .block-size .ensures, pow-pos (c .before .args .quarters))

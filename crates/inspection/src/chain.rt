@@ -1,5 +1,5 @@
 ghost use Rattle.measures.specs.Layout.{LayoutFits};
-ghost use Rattle.soundness.specs.Chain.{ChainMeets};
+ghost use Rattle.inspection.specs.Chain.{ChainMeets};
 use measures::sizes::Layout;
 use measures::slots::NEXT;
 use measures::slots::offset;

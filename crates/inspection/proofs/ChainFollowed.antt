@@ -12,7 +12,7 @@ use Rattle.measures.specs.Slot.{slotPart, levelWord, nextWord}
 use Rattle.measures.proofs.SlotWrites.{slot-word}
 use Rattle.store.specs.FreeSlots.{noSlot, FreeChain, FreeSlots}
 use Rattle.store.proofs.Standing.{every-join}
-use Rattle.soundness.specs.Chain.{ChainOf, ChainEnds, NoEnd}
+use Rattle.inspection.specs.Chain.{ChainOf, ChainEnds, NoEnd}
 
 -- a chain from the slot that comes next
 pub record ChainLeft (layout : Layout) (words : List ℕ) (next : ℕ) (past free : List ℕ) : Type 0 where

@@ -1,9 +1,9 @@
--- `soundness::chain::count_free` meets its contract: the loop follows the chain slot by slot, and stops where no chain of so many slots goes on.
+-- `inspection::chain::count_free` meets its contract: the loop follows the chain slot by slot, and stops where no chain of so many slots goes on.
 use Prim.Native.Nat.{_-_, _≤_}
 use borrow.Author.Needs.{needs}
-use Rattle.soundness.proofs.ChainFollowed.{FollowedTo, followed-none, no-end, next-absent, next-taken, next-followed, chain-ends}
-use Rattle.soundness.proofs.chain.count_free.Statement.{statement}
-use Rattle.soundness.proofs.chain.count_free.Tie as tie
+use Rattle.inspection.proofs.ChainFollowed.{FollowedTo, followed-none, no-end, next-absent, next-taken, next-followed, chain-ends}
+use Rattle.inspection.proofs.chain.count_free.Statement.{statement}
+use Rattle.inspection.proofs.chain.count_free.Tie as tie
 
 abbrev Inv-loop : tie.InvT-loop
 Inv-loop store layout next₀ count₀ next count = (count ≤ layout .slots) × FollowedTo layout store next count
