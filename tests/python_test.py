@@ -73,7 +73,7 @@ def cases():
     yield [raised(filled.fill, codes) for codes in ([-1], [2**32], [1.5], 7)], ["ValueError", "ValueError", "TypeError", "TypeError"]
     yield filled.save(), image
     filled.fill(())
-    yield filled.count(0, 0, 7, 7), pkreg.Counted(found=0, opened=1)
+    yield filled.count(0, 0, 7, 7), pkreg.Counted(found=0, opened=0)
     yield filled.nearest(4, Whole(0), 1), pkreg.Nearest(pixel=None, distance=0, opened=1, limit=0, complete=True)
     far = Register.from_pixels(16, 2, [(65535, 65535)]).nearest(0, 0)
     yield far, pkreg.Nearest(pixel=(65535, 65535), distance=8589672450, opened=1, limit=8589672450, complete=True)
