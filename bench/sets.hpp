@@ -60,15 +60,11 @@ public:
 // The unverified C++ PK-tree, in a store of its own.
 class Tree {
     std::vector<uint32_t> store;
-    bool known; // whether the library knows the numbers in the store, so that it can check them
 
 public:
     Tree(unsigned order, uint32_t k, size_t most) : store(pk_words(k, most))
     {
         must(!pk_make(store.data(), store.size(), order, k, most), "refused", "make");
-        known = store[unverified::BLOCKS] == 1;
-        store[unverified::BLOCKS] = 1;
-        unverified::slot_at(store.data(), unverified::width_of(k), 0).number = 0;
     }
     bool mark(Pixel p) { return unverified::mark(store.data(), store.size(), p.x, p.y) == PK_ACCEPTED; }
     bool clear(Pixel p) { return unverified::clear(store.data(), store.size(), p.x, p.y) == PK_ACCEPTED; }
@@ -92,7 +88,7 @@ public:
     {
         must(!unverified::fill(store.data(), store.size(), codes.data(), codes.size()), "refused", "fill of the C++ tree");
     }
-    void must_be_sound() const { must(!known || pk_check(store.data(), store.size()).first == 1, "is no sound store", "the C++ tree"); }
+    void must_be_sound() const { must(pk_check(store.data(), store.size()).first == 1, "is no sound store", "the C++ tree"); }
 };
 
 // Counting and listing for a set that has search(window, visit), which hands the code of each pixel found to `visit`.

@@ -11,7 +11,6 @@ use Rattle.measures.specs.declared.sizes.Sizes.{Sizes}
 use Rattle.measures.specs.Layout.{LaidOut}
 use Rattle.measures.specs.Sizes.{slotCount, slotWidth, sizesOf, UsableStore}
 use Rattle.measures.proofs.Usable.{layout-said, layout-fits}
-use Rattle.store.specs.Sound.{Holds}
 use Rattle.store.specs.Opening.{Opened}
 use Rattle.store.specs.declared.opening.Opening.{Opening}
 use Rattle.store.specs.declared.opening.Opening.the-variants.{Elements, Damaged as Shut}

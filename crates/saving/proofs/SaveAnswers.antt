@@ -9,6 +9,7 @@ use lib.Seq.{length-take-le, drop-at, drop-length}
 use Rattle.pktree.specs.Entries.{entries}
 use Rattle.pktree.specs.Image.{image, headerLength}
 use Rattle.pktree.specs.Tree.{blocks}
+use Rattle.pktree.proofs.Forests.{blockCount, length-blocks}
 use Rattle.pktree.proofs.Images.{image-length}
 use Rattle.pktree.proofs.Absurd.{zero-is-not-one}
 use Rattle.measures.specs.declared.sizes.Sizes.{Sizes}
@@ -44,14 +45,17 @@ module _ {words : List ℕ} {told : Numbers} (answer : NumbersAnswer words told)
 
   -- n and m are what was said; found and opened are the same numbers, widened
   module _ {n m found opened : ℕ} (numbers-are : told ≡ Said n m) (found-is : found ≡ n) (opened-is : opened ≡ m) where
+    said-blocks : {set : List ℕ} → Holds words set → m ≡ length (blocks (heldTree words set))
+    said-blocks {set} holds = let w = answer .sound set holds in cc
+
     -- 01: an image has n pixels and e entries
     numbers : {set : List ℕ} → Holds words set
         → (n ≡ length set) × (found + opened ≡ length (entries (heldTree words set))) × (headerLength + 5 * (found + opened) ≡ length (image (panelOf (sizesOf words)) set))
     numbers {set} holds =
         let w = answer .sound set holds in
         let f : n ≡ length set = cc in
-        let o : m ≡ length (blocks (heldTree words set)) = cc in
-        omega (arith, entries-counted holds, image-length (panelOf (sizesOf words)) set)
+        let o = said-blocks holds in
+        omega (arith, o, entries-counted holds, image-length (panelOf (sizesOf words)) set)
 
     -- a spoiled store has no numbers
     not-spoiled : UsableStore words → Spoiled words → ⊥
@@ -77,7 +81,10 @@ module _ {words : List ℕ} {told : Numbers} (answer : NumbersAnswer words told)
 
       -- the walk writes all entries of a sound store
       all-put : {set : List ℕ} → Holds words set → (r ≡ found + opened) × (front .part ≡ putEntries (n + m) 0 (w .headed) (entries (heldTree words set)))
-      all-put holds = let p = root-walked said (w .laid) (w .walk .right) holds .says (omega (arith, numbers holds .1)) in (omega (arith, p .0, numbers holds .1), p .1)
+      all-put {set} holds =
+          let few : blockCount (heldTree words set) ≤ m = omega (arith, said-blocks holds, length-blocks (heldTree words set)) in
+          let p = root-walked said (w .laid) (w .walk .right) holds .says (omega (arith, numbers holds .1)) few in
+          (omega (arith, p .0, numbers holds .1), p .1)
 
       -- neither the header nor the walk changes the length
       part-long : length (front .part) ≡ headerLength + 5 * (found + opened)

@@ -1,11 +1,13 @@
 -- What the walk that writes an image leaves in the output.
 use Prim.Native.Nat.{ℕ, _+_, _*_, _≤_, _<_}
 use mathlib.Core.Path.{_≡_}
+use mathlib.Core.Logic.{_⊎_}
 use mathlib.Core.List.{List, _++_}
 use lib.ListN.{length, take, drop}
 use Rattle.pktree.specs.Elements.{Forest}
 use Rattle.pktree.specs.Entries.{entries}
 use Rattle.pktree.specs.Image.{headerLength}
+use Rattle.pktree.proofs.Forests.{blockCount}
 use Rattle.store.specs.Opening.{CannotOpen}
 use Rattle.measures.specs.declared.sizes.Sizes.{Sizes}
 use Rattle.measures.specs.declared.sizes.Layout.{Layout}
@@ -24,23 +26,26 @@ pub record PixelPut (n code : ℕ) (before after : List ℕ) (at r : ℕ) : Type
   pub long : length after ≡ length before
   pub put : at < n → (r ≡ at + 1) × (after ≡ putEntry n at before 0 code)
 
--- from index `s .1` on the entries of these elements are written, where they have room
-pub record EntriesPut (saving : ImageWalk) (s : List ℕ × ℕ) (f : Forest) (t : List ℕ × ℕ) : Type 0 where
-  pub says : s .1 + length (entries f) ≤ saving .entries
-      → (t .1 ≡ s .1 + length (entries f)) × (t .0 ≡ putEntries (saving .entries) (s .1) (s .0) (entries f))
+-- from index `s .1` on the entries of these elements are written, where they have room; each of their blocks is one of the `s .2` that may still be entered
+pub record EntriesPut (saving : ImageWalk) (s : List ℕ × ℕ × ℕ) (f : Forest) (t : List ℕ × ℕ × ℕ) : Type 0 where
+  pub says : s .1 + length (entries f) ≤ saving .entries → blockCount f ≤ s .2
+      → (t .1 ≡ s .1 + length (entries f)) × (t .0 ≡ putEntries (saving .entries) (s .1) (s .0) (entries f)) × (t .2 + blockCount f ≡ s .2)
 
-pub record BlockSaved (saving : ImageWalk) (words : List ℕ) (above slot level code : ℕ) (before after : List ℕ) (at r : ℕ) : Type 0 where
-  pub right : BlockWalked (EntriesPut saving) (saving .layout) words above slot level code (before, at) (after, r)
-  pub long : length after ≡ length before
-  pub closed : CannotOpen (saving .layout .width) words slot level code → saving .entries < r
+pub record BlockSaved (saving : ImageWalk) (words : List ℕ) (above slot level code : ℕ) (s t : List ℕ × ℕ × ℕ) : Type 0 where
+  pub right : BlockWalked (EntriesPut saving) (saving .layout) words above slot level code s t
+  pub long : length (t .0) ≡ length (s .0)
+  pub closed : CannotOpen (saving .layout .width) words slot level code → saving .entries < t .1
+  -- whatever the words are: a block that is entered lowers the number of those that may be; else nothing is written, and no further block is entered
+  pub lowers : (t .2 < s .2) ⊎ (t ≡ (s .0, saving .entries + 1, 0))
 
--- the header, and then a walk from the root
+-- the header, and then a walk from the root, which may enter as many blocks as were said
 pub record ImageWritten (sizes : Sizes) (pixels blocks : ℕ) (words before after : List ℕ) (r : ℕ) : Type 0 where
   pub layout : Layout
   pub laid : LaidOut sizes layout
   pub headed : List ℕ
   pub head : HeaderPut before (sizes .order) (sizes .k) (pixels + blocks) pixels headed
-  pub walk : BlockSaved (record { layout = layout; entries = pixels + blocks }) words levelAboveRoot 0 (sizes .order) 0 headed after 0 r
+  pub left : ℕ
+  pub walk : BlockSaved (record { layout = layout; entries = pixels + blocks }) words levelAboveRoot 0 (sizes .order) 0 (headed, 0, blocks) (after, r, left)
 
 -- so in the first n bytes; the rest is as it was
 pub record FrontWritten (sizes : Sizes) (pixels blocks n : ℕ) (words before after : List ℕ) (r : ℕ) : Type 0 where

@@ -48,7 +48,17 @@ fn save_pixel(output: &mut [u8], entries: usize, at: usize, code: u32) -> usize
     at + 1
 }
 
+// No further block is entered; the answer is past the last entry.
+fn stop(entries: usize, left: &mut u32) -> usize
+    requires { ⌜ entries + 1 < 18446744073709551616 ⌝ }
+    ensures { λ r. ⌜ (r ≡ entries + 1) × (now (left .exit) ≡ 0) ⌝ }
+{
+    *left = 0;
+    entries + 1
+}
+
 // The entries of the block in this slot, an element of a block of level `above`, from index `at` on: its own, then those of its elements.
+// Whatever the words are, no more than `left` slots are opened: each block that is entered lowers it, and after one that is not it is 0.
 fn save_block(
     store: &[u32],
     saving: ImageWalk,
@@ -58,25 +68,30 @@ fn save_block(
     code: u32,
     output: &mut [u8],
     at: usize,
+    left: &mut u32,
 ) -> usize
     requires { ⌜ CanSave saving (now store) above (now output) ⌝ }
-    ensures { λ r. ⌜ BlockSaved saving (now (store .entry)) above slot level code (now (output .entry)) (now (output .exit)) at r ⌝ }
+    ensures { λ r. ⌜ BlockSaved saving (now (store .entry)) above slot level code (now (output .entry), at, now (left .entry)) (now (output .exit), r, now (left .exit)) ⌝ }
 {
     let entries = saving.entries;
-    if entries <= at {
-        return entries + 1;
+    if *left < 1 {
+        return stop(entries, left);
     }
     let Opening::Elements(count) = enter(store, saving.layout, above, slot, level, code) else {
-        return entries + 1;
+        return stop(entries, left);
     };
+    if entries <= at {
+        return stop(entries, left);
+    }
     let part = part_of(store, saving.layout, slot);
     put_entry(output, entries, at, level, code);
+    *left -= 1;
     let mut next = at + 1;
     for i in 0..count {
         match element_at(part, i) {
             Element::Pixel(pixel) => next = save_pixel(output, entries, next, pixel),
             Element::Block(s, inner, c) => {
-                next = save_block(store, saving, level, s, inner, c, output, next);
+                next = save_block(store, saving, level, s, inner, c, output, next, left);
             }
         }
     }
@@ -94,6 +109,7 @@ fn write_image(store: &[u32], sizes: Sizes, pixels: u32, blocks: u32, output: &m
         layout: layout_of(sizes),
         entries: wide(pixels) + wide(blocks),
     };
+    let mut left = blocks;
     save_block(
         store,
         saving,
@@ -103,6 +119,7 @@ fn write_image(store: &[u32], sizes: Sizes, pixels: u32, blocks: u32, output: &m
         0,
         output,
         0,
+        &mut left,
     )
 }
 

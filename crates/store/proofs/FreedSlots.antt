@@ -4,13 +4,12 @@ use native.Mathlib.Omega.{arith}
 use native.Mathlib.Decide.{ℕ-discrete}
 use mathlib.Core.Path.{_≡_, refl, ap, sym, _∙_}
 use mathlib.Core.List.{List}
-use lib.ListN.{length, take, drop, set, length-set}
+use lib.ListN.{length, take, set, length-set}
 use lib.Seq.{take-set-le, take-set-lt, getD-set-same, getD-set-other}
 use Rattle.pktree.specs.Lists.{Every}
-use Rattle.measures.specs.Words.{headWords, blocksWord, blocksIndex, firstFreeIndex}
+use Rattle.measures.specs.Words.{headWords, blocksIndex, firstFreeIndex}
 use Rattle.measures.specs.declared.sizes.Layout.{Layout}
-use Rattle.measures.specs.Layout.{LayoutFits, storeEnd}
-use Rattle.measures.specs.Slot.{slotPart}
+use Rattle.measures.specs.Layout.{LayoutFits}
 use Rattle.store.specs.FreeSlots.{noSlot, occurrences, Released, numbersFrom, FreeFrom}
 use Rattle.measures.proofs.SlotWrites.{take-less, word-in-front, head-word-set, head-written-then}
 use Rattle.store.proofs.FreeChains.{occurrences-same, occurrences-other, chain-released}

@@ -1,17 +1,17 @@
 -- The free slots as a change sees them: the chain, and word 6, which counts all the others.
-use Prim.Native.Nat.{ℕ, suc, _+_, _-_, _≤_, _<_}
+use Prim.Native.Nat.{ℕ, _+_, _-_, _≤_, _<_}
 use native.Mathlib.Omega.{arith}
 use mathlib.Core.Path.{_≡_, ap, sym, _∙_}
-use mathlib.Core.List.{List, [], _∷_}
-use lib.ListN.{length, getD, take, set, length-take}
+use mathlib.Core.List.{List, _∷_}
+use lib.ListN.{length, getD, take, set}
 use lib.Seq.{getD-take, getD-set-same, length-take-le}
 use Rattle.pktree.specs.Lists.{Every}
-use Rattle.measures.specs.Words.{headWords, blocksWord, blocksIndex, firstFreeWord, firstFreeIndex}
+use Rattle.measures.specs.Words.{headWords, blocksWord, blocksIndex, firstFreeIndex}
 use Rattle.measures.specs.declared.sizes.Layout.{Layout}
 use Rattle.measures.specs.Layout.{LayoutFits}
 use Rattle.measures.specs.Slot.{slotPart}
 use Rattle.measures.proofs.SlotWrites.{HeadWritten, word-in-front}
-use Rattle.store.specs.declared.free.FreeSlot.the-variants.{Taken, Missing}
+use Rattle.store.specs.declared.free.FreeSlot.the-variants.{Taken}
 use Rattle.store.specs.FreeSlots.{FreeSlots, occurrences, TookFree, Released}
 use Rattle.store.specs.Sound.{SlotsShared}
 use Rattle.store.proofs.FreeChains.{free-kept, headTaken, first-taken, chain-released}

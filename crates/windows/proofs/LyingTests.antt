@@ -1,7 +1,7 @@
 -- The two tests of a block in one answer, and the window that has the whole panel.
 use Prim.Native.Nat.{ℕ, _-_, _*_, _%_, _^_, _≤_, _<_}
 use native.Mathlib.Omega.{arith}
-use mathlib.Core.Path.{_≡_, refl, sym, _∙_}
+use mathlib.Core.Path.{_≡_, sym, _∙_}
 use mathlib.Core.Bool.{Bool, true, false}
 use Rattle.morton.proofs.Side.{side-shifted}
 use Rattle.pktree.proofs.Absurd.{zero-is-not-one}

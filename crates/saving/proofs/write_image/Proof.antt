@@ -15,23 +15,26 @@ put-header-requires c κs =
 
 save-block-requires : tie.Need-save-block-requires
 save-block-requires c κs =
-    let laid = c .before .before .before in
+    let widened = c .before .before in
+    let laid = widened .before .before in
     let headed = laid .before .before .before in
     let a = headed .before .before .before .before in
     can-save (a .pre .0 .0) (a .pre .0 .1) (laid .layout-of .ensures)
-    (omega (arith, a .pre .1 .0, length-headed (headed .put-header .ensures) (omega (arith, a .pre .1 .0)), c .before .before .wide .ensures, c .before .wide2 .ensures))
+    (omega (arith, a .pre .1 .0, length-headed (headed .put-header .ensures) (omega (arith, a .pre .1 .0)), widened .before .wide .ensures, widened .wide2 .ensures))
 
 returns : tie.Need-returns
 returns c =
     let walked = c .before .before in
-    let laid = walked .before .before .before .before in
+    let widened = walked .before .before .before in
+    let laid = widened .before .before in
     let headed = laid .before .before .before in
     record {
       layout = laid .layout-of .result;
       laid = laid .layout-of .ensures;
       headed = headed .put-header .last .0;
       head = headed .put-header .ensures;
-      walk = rw (walked .before .before .before .wide .ensures, walked .before .before .wide2 .ensures) at (walked .save-block .ensures);
+      left = _;
+      walk = rw (widened .before .wide .ensures, widened .wide2 .ensures) at (walked .save-block .ensures);
     }
 
 pub write-image-spec : {M : Type 1} → statement M

@@ -1,6 +1,5 @@
 -- `query::count::count_whole` meets its contract: the root's slot is opened, and its number held against N.
 use native.Mathlib.Omega.{arith}
-use mathlib.Core.Path.{refl}
 use borrow.Author.Needs.{needs}
 use Rattle.measures.proofs.Usable.{sizes-valid, layout-fits, part-has-head, part-narrow}
 use Rattle.query.proofs.WholeCount.{root-shut, number-above, number-within}

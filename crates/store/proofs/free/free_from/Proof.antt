@@ -4,9 +4,8 @@ use native.Mathlib.Omega.{arith}
 use mathlib.Core.Path.{_∙_}
 use lib.ListN.{length-set}
 use borrow.Author.Needs.{needs}
-use Rattle.measures.specs.Words.{blocksIndex, firstFreeIndex}
-use Rattle.store.specs.FreeSlots.{noSlot, FreeFrom}
-use Rattle.store.proofs.FreedSlots.{noneFree, none-long, none-fits, none-freed, one-more-freed, freed-down}
+use Rattle.store.specs.FreeSlots.{FreeFrom}
+use Rattle.store.proofs.FreedSlots.{none-long, none-fits, none-freed, one-more-freed, freed-down}
 use Rattle.store.proofs.free.free_from.Statement.{statement}
 use Rattle.store.proofs.free.free_from.Tie as tie
 

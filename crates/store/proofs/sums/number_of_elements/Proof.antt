@@ -1,7 +1,7 @@
 -- `store::sums::number_of_elements` meets its contract: the sum so far and what the elements left stand for are the whole.
 use Prim.Native.Nat.{_+_, _-_, _*_, _≤_}
 use native.Mathlib.Omega.{arith}
-use mathlib.Core.Path.{_≡_, refl}
+use mathlib.Core.Path.{_≡_}
 use lib.ListN.{drop}
 use borrow.Author.Needs.{needs}
 use Rattle.measures.specs.Sizes.{largestMost}
