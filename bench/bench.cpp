@@ -182,7 +182,7 @@ int main(int count, char **arguments)
         return 0;
     }
     std::printf("Time of a call, best of %d repeats; right of pkreg: the other's time over that of pkreg k=8 (above 1: slower).\n", REPEATS);
-    std::vector<size_t> sizes{1000, 8000, 60000};
+    std::vector<size_t> sizes{1000, 5000, 24000};
     if (size_t pixels = std::stoul(options["--pixels"]))
         sizes = {pixels};
     for (bool crowded : {false, true})

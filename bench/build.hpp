@@ -36,7 +36,7 @@ inline const Slot &slot_at(const uint32_t *store, size_t width, size_t slot)
 // Refusal 3 is for any other store.
 inline bool usable(const uint32_t *store, size_t words)
 {
-    if (words < HEAD || store[0] != REGISTER_MARK || store[1] - 1 > 15 || store[2] - 2 > 14 || store[3] - 1 > 65534)
+    if (words < HEAD || store[0] != REGISTER_MARK || store[1] - 1 > 15 || store[2] - 2 > 14 || store[3] - 1 > 24575)
         return false;
     return words >= HEAD + slots_of(store[2], store[3]) * width_of(store[2]);
 }

@@ -2,8 +2,9 @@
  * pkreg: a register of unfit pixels, kept as a PK-tree in words that the caller lends.
  *
  * The panel. A panel of order m (1 to 16) has side 2^m; a pixel is (x, y), each from 0 to 2^m - 1. Its code interleaves the bits of both:
- * bit i of x is bit 2i of the code, bit i of y is bit 2i + 1. The register holds at most `most` pixels (1 to 65535; N in the
- * specification).
+ * bit i of x is bit 2i of the code, bit i of y is bit 2i + 1. The register holds at most `most` pixels (1 to 24576; N in the
+ * specification). Versions before 1.6.0 took a `most` of up to 65535. A store that one of them made with more than 24576 is refused with 3;
+ * the image of that register still loads into one with a `most` of up to 24576, if it has no more pixels than that.
  *
  * The tree. The panel is cut into quarters, these again, and so on down to single pixels; each such square is a block. A block's elements
  * are what lies directly in it: marked pixels, and smaller blocks of the tree, each of which counts as one element with all that it holds.
@@ -19,7 +20,7 @@
  *   - a store and an image, codes or an output that do not overlap;
  *   - one thread at a time on a store. The library has no state of its own, so different stores need no lock;
  *   - 16 KiB of stack, and 1 MiB for pk_nearest. This is tried, not proved: tests/stack_test.c runs every call on so much, and they use
- *     about 9 KiB, pk_nearest at most 774 KiB.
+ *     about 9 KiB, pk_nearest under 300 KiB.
  * Given that, no call can fail in another way than by its refusal: no other argument and no content of the store is asked for
  * beforehand, no call reads or writes past what was lent, and each call ends.
  */
@@ -28,9 +29,9 @@
 
 /* The version; the Makefile takes it from here. A new MAJOR gives the shared library a new name, so no program meets one that it was not
    linked for. */
-#define PK_VERSION "1.5.0"
+#define PK_VERSION "1.6.0"
 #define PK_VERSION_MAJOR 1
-#define PK_VERSION_MINOR 5
+#define PK_VERSION_MINOR 6
 #define PK_VERSION_PATCH 0
 
 #include <stddef.h>
@@ -47,19 +48,20 @@ extern "C" {
 enum {
     /* The call was done. */
     PK_ACCEPTED = 0,
-    /* pk_make was given m, k or most beyond its limits. Give m from 1 to 16, k from 2 to 16, most from 1 to 65535. */
+    /* pk_make was given m, k or most beyond its limits. Give m from 1 to 16, k from 2 to 16, most from 1 to 24576. */
     PK_BEYOND_LIMITS = 1,
     /* pk_make was lent too few words. Lend pk_words(k, most) words, or more. */
     PK_STORE_TOO_SHORT = 2,
     /* The words are no register, or fewer are lent than pk_words(k, most). Call pk_make first, and lend the same words to every call. After
-       a 13 of pk_mark or pk_clear: pk_make, then pk_load of the last image. */
+       a 13 of pk_mark or pk_clear: pk_make, then pk_load of the last image. So too for a store that an older version made with a most above
+       24576: pk_make with one up to 24576, then pk_load of its image. */
     PK_NO_REGISTER = 3,
     /* pk_mark, pk_clear, pk_ask, pk_nearest: the pixel is not on the panel; give x and y below 2^m. pk_fill: a code is not; give codes below
        4^m. A window may reach past the panel: see pk_count. */
     PK_OFF_PANEL = 4,
     /* pk_mark: the pixel is marked already. There is nothing to do. */
     PK_ALREADY_MARKED = 5,
-    /* pk_mark: the register holds as many pixels as it may. Clear some, or load its image into a register made with a larger most.
+    /* pk_mark: the register holds as many pixels as it may. Clear some, or load its image into a register made with a larger most, of up to 24576.
        pk_fill: more codes are given than that. */
     PK_FULL = 6,
     /* pk_clear: the pixel is not marked. There is nothing to do. */
@@ -70,7 +72,8 @@ enum {
     PK_OUTPUT_TOO_SHORT = 9,
     /* pk_load: the bytes are fewer than 10, or not as many as their own number of entries asks. Send the file whole. */
     PK_NOT_AN_IMAGE = 10,
-    /* pk_load: the image has another m or k than the register, or more pixels than most. Make a register of the image's sizes. */
+    /* pk_load: the image has another m or k than the register, or more pixels than most. Make a register of the image's sizes. An image
+       of more than 24576 pixels, as versions before 1.6.0 could save, loads into no register. */
     PK_IMAGE_UNLIKE = 11,
     /* pk_load: no set of pixels has this image, so its bytes were changed. Ask its sender for it again. */
     PK_IMAGE_DAMAGED = 12,
@@ -128,7 +131,7 @@ pk_answer pk_ask(const uint32_t *store, size_t words, uint32_t x, uint32_t y);
    is certainly fit. complete: 1 when no block is left that could hold a pixel as near as the one found, else 0. The pixel is then the nearest
    of all, and limit is its distance; or found is 0, nothing is marked, and limit is 0. A larger budget never gives a farther pixel or a
    smaller limit, and a budget of all the blocks of the tree always completes the search.
-   Most searches use about 4 KiB of stack, but one among many blocks at nearly one distance needs 774 KiB. Refusals 3, 4, 13, 15. */
+   Most searches use about 4 KiB of stack, but one among many blocks at nearly one distance needs nearly 300 KiB. Refusals 3, 4, 13, 15. */
 pk_nearest_answer pk_nearest(const uint32_t *store, size_t words, uint32_t x, uint32_t y, uint32_t budget);
 
 /* The window from (x0, y0) to (x1, y1), both corners included; it may reach past the panel, to any coordinate, and its part on the panel is

@@ -8,10 +8,12 @@ import sys
 from pictures import PictureError, read_picture, write_picture
 from pkreg import LARGEST_MOST, LibraryMissing, Refusal, Register, __version__, code_of, entries_of, pixel_of, sizes_of
 
-# the image of the most pixels in the most blocks
-LONGEST_IMAGE = 10 + 5 * (2 * LARGEST_MOST)
+# the image of the most pixels in the most blocks that a version before 1.6.0 could save: it is read whole, so that it is refused for its
+# many pixels and not as a file that was cut
+LONGEST_IMAGE = 10 + 5 * (2 * 65535)
 PICTURES = """A picture is PBM (name ending .pbm), where 1 is masked, or PGM (.pgm) of greatest value 255, where 255 is masked and 0 is not.
 Column x of row y is pixel (x, y); row 0 is the first row of the file."""
+TOO_MANY = f"more masked pixels than the {LARGEST_MOST} that a register holds"
 DIFFERENT, FAILED = 1, 2
 
 
@@ -26,6 +28,9 @@ def read_image(path):
     try:
         return image, Register.from_image(image)
     except Refusal as refusal:
+        # the register has the image's own m and k, so only the number of its pixels can be meant
+        if refusal.number == 11:
+            raise UserError(f"{path}: {TOO_MANY}") from None
         raise UserError(f"{path}: not a whole image: {refusal}") from None
 
 
@@ -83,7 +88,7 @@ def to_image(arguments):
     order, masked = read_picture(arguments.picture)
     pixels = list(itertools.islice(masked, LARGEST_MOST + 1))
     if len(pixels) > LARGEST_MOST:
-        raise UserError(f"{arguments.picture}: more masked pixels than the {LARGEST_MOST} that a register holds")
+        raise UserError(f"{arguments.picture}: {TOO_MANY}")
     register = Register.from_pixels(order, arguments.k, pixels)
     with open(arguments.image, "wb") as file:
         file.write(register.save())

@@ -16,10 +16,10 @@ import os
 from typing import NamedTuple, Optional
 
 # that of include/pkreg.h; the library is opened by the name that goes with its first number
-__version__ = "1.5.0"
+__version__ = "1.6.0"
 
 MEANINGS = {
-    1: "m, k or most is beyond its limits: m is 1 to 16, k 2 to 16, most 1 to 65535",
+    1: "m, k or most is beyond its limits: m is 1 to 16, k 2 to 16, most 1 to 24576",
     2: "the store is too short for k and most",
     3: "these words are no register",
     4: "a pixel or a code is not on the panel",
@@ -35,7 +35,7 @@ MEANINGS = {
     14: "the codes do not strictly ascend: sort them, and give each once",
     15: "the budget is zero: let the search open one block or more",
 }
-LARGEST_MOST = 65535
+LARGEST_MOST = 24576
 # a budget that no search can spend
 UNBOUNDED = 2**32 - 1
 HEAD_BYTES = 10
@@ -209,7 +209,8 @@ class Register:
 
     @classmethod
     def from_image(cls, image):
-        """A register of the image's own sizes that holds its pixels, and no room for more."""
+        """A register of the image's own sizes that holds its pixels, and no room for more; Refusal 11 for more pixels than LARGEST_MOST, as
+        versions before 1.6.0 could save."""
         sizes = sizes_of(image)
         register = cls.make(sizes.order, sizes.k, min(max(sizes.pixels, 1), LARGEST_MOST))
         register.load(image)
@@ -218,7 +219,7 @@ class Register:
     @classmethod
     def from_pixels(cls, m, k, pixels, most=None):
         """A register of order m, with this k, that holds these pixels, (x, y) each, in any order and doubles taken once; if `most` is not
-        given, there is no room for more."""
+        given, there is no room for more. Refusal 6 for more pixels than `most` or LARGEST_MOST."""
         pixels = {(operator.index(x), operator.index(y)) for x, y in pixels}
         register = cls.make(m, k, min(max(len(pixels), 1), LARGEST_MOST) if most is None else most)
         register.fill(sorted(register._code(x, y) for x, y in pixels))

@@ -16,9 +16,9 @@ def sizes(random):
 
 
 def beyond(random, m, k, most):
-    """Sizes of which one is beyond its limits."""
+    """Sizes of which one is beyond its limits; 65535 was the largest most of older versions."""
     wrong_m, wrong_k = [(value, k, most) for value in (0, 17, FAR)], [(m, value, most) for value in (0, 1, 17)]
-    return random.choice(wrong_m + wrong_k + [(m, k, value) for value in (0, 65536, FAR)])
+    return random.choice(wrong_m + wrong_k + [(m, k, value) for value in (0, 24577, 65535, FAR)])
 
 
 def pixel(random, model):

@@ -118,14 +118,14 @@ def all_give_3(random, subject, model):
 
 
 def unusable(random, subject, model):
-    """Wrong sizes, and too few words."""
-    wrong = Subject(subject.store.values(), subject.tally)
-    at, value = random.choice(NO_REGISTER)
-    wrong.store[at] = value
+    """Each of the wrong sizes, and too few words."""
+    for at, value in NO_REGISTER:
+        wrong = Subject(subject.store.values(), subject.tally)
+        wrong.store[at] = value
+        all_give_3(random, wrong, model)
     needed = words_needed(model.k, model.most)
     short = Subject(subject.store.values()[: random.choice((0, 4, 7, 8, needed - 1))], subject.tally)
-    for other in (wrong, short):
-        all_give_3(random, other, model)
+    all_give_3(random, short, model)
 
 
 def further_calls(random, subject, model):

@@ -16,9 +16,9 @@ from subject import REFUSALS, Difference, expect
 
 
 def words_agree(rolls):
-    """pk_words at every k, and at a most near its limits and between."""
+    """pk_words at every k, and at a most near its limits, between them, and up to the limit of older versions."""
     for k in (*range(18), 2**32 - 1):
-        for most in (0, 1, 2, 15, 16, 65534, 65535, 65536, 2**32 - 1, rolls.randrange(65536)):
+        for most in (0, 1, 2, 15, 16, 24575, 24576, 24577, 65535, 65536, 2**32 - 1, rolls.randrange(24577), rolls.randrange(24577, 65536)):
             expect(f"words({k}, {most})", LIBRARY.pk_words(k, most), words_needed(k, most))
 
 

@@ -17,6 +17,8 @@ def made(random, m, k, most, tally):
     expect("make beyond limits", subject.made(*choices.beyond(random, m, k, most)), 1)
     short = Subject(subject.store.values()[: random.choice((0, 3, 7, 8, length - 1))], tally)
     expect("make in too few words", short.made(m, k, most), 2)
+    # the largest most is within its limits: only the words are too few for it
+    expect("make with the largest most in too few words", subject.made(m, k, 24576), 2)
     expect(f"make({m}, {k}, {most})", subject.made(m, k, most), 0)
     return subject
 

@@ -1,17 +1,21 @@
-"""The largest register: order 16, k = 2 and 65,535 pixels, against the model's image after marking, loading, filling, and clearing half; and
-searches in it against a look at every pixel."""
+"""The largest register: order 16, k = 2 and 24,576 pixels, against the model's image after marking, loading, filling, and clearing half;
+searches in it against a look at every pixel; and what lies beyond it, up to the 65,535 pixels of older versions."""
 
 import math
 import random
 import sys
 
+from damage import all_give_3
 from lent import LIBRARY, octets, words
-from model import Model, Tree, corner, image_of, interleave, squared_distance, words_needed
+from model import Model, Tree, corner, image_of, interleave, slots_for, squared_distance, words_needed
 from spoiling import name_next
 from subject import Difference, Subject, expect, told_by
 
-ORDER, K, MOST = 16, 2, 65535
-MIDDLE, RADIUS, UNBOUNDED = 32768, 16000, 2**32 - 1
+ORDER, K, MOST = 16, 2, 24576
+# just beyond, and the largest most of older versions, with the words that their store has by the formula
+BEYOND = (24577, 65535)
+OLDER_WORDS = 8 + slots_for(K, 65535) * (8 + 10 * (K - 1))
+MIDDLE, RADIUS, UNBOUNDED = 32768, 6000, 2**32 - 1
 
 
 def chosen(rolls):
@@ -82,6 +86,30 @@ def damaged_search(rolls):
     expect("a search of damaged words", subject.call("nearest", 2**ORDER - 1, 2**ORDER - 1, UNBOUNDED)[0], 13)
 
 
+def refused_beyond(store, codes, free):
+    """A full register refuses images and codes of more pixels, and stays as it was."""
+    for number, given in zip(BEYOND, (codes | {free}, set(range(65535)))):
+        image, ascending = octets(image_of(ORDER, K, given)), words(sorted(given))
+        expect(f"load of {number} pixels", (len(given), LIBRARY.pk_load(*store.arguments, *image.arguments)), (number, 11))
+        expect(f"fill with {number} codes", LIBRARY.pk_fill(*store.arguments, *ascending.arguments), 6)
+    holds(store, codes)
+
+
+def older_store(rolls):
+    """Words that are enough for the largest most of older versions: a store with a larger most than ours is refused for its most alone."""
+    subject, model = Subject([0] * OLDER_WORDS), Model(ORDER, K, MOST)
+    for most in BEYOND:
+        expect(f"make with most {most}", subject.made(ORDER, K, most), 1)
+    expect("make in more words than needed", subject.made(ORDER, K, MOST), 0)
+    codes = [0, 1, 2, 60]
+    expect("fill", (subject.call("fill", codes=words(codes))[0], model.fill(codes)), (0, 0))
+    for most in BEYOND:
+        subject.store[3] = most
+        all_give_3(rolls, subject, model)
+    subject.store[3] = MOST
+    expect("check with the largest most", subject.call("check"), (0, 1, 0))
+
+
 def run(rolls):
     codes, first, second = chosen(rolls), empty(), empty()
     for code in rolls.sample(sorted(codes), len(codes)):
@@ -94,8 +122,8 @@ def run(rolls):
     third, ascending = empty(), words(sorted(codes))
     expect("fill", LIBRARY.pk_fill(*third.arguments, *ascending.arguments), 0)
     holds(third, codes)
-    too_many = words(range(MOST + 1))
-    expect("fill with one more", LIBRARY.pk_fill(*third.arguments, *too_many.arguments), 6)
+    refused_beyond(third, codes, free)
+    older_store(rolls)
     searches(rolls, third, codes)
     damaged_search(rolls)
     gone = rolls.sample(sorted(codes), MOST // 2)
@@ -110,7 +138,7 @@ def main():
     except Difference as difference:
         print(f"largest: DIFFERENCE: {difference}")
         return 1
-    print(f"largest: order {ORDER}, k {K}, {MOST} pixels marked, loaded, filled, searched and half cleared, ok")
+    print(f"largest: order {ORDER}, k {K}, {MOST} pixels marked, loaded, filled, searched and half cleared, and {' and '.join(map(str, BEYOND))} refused, ok")
     return 0
 
 

@@ -4,7 +4,7 @@ It shares nothing with the library or with python/: not even the interleaving. I
 nearest as (refusal, found, code, distance, opened, limit, complete).
 """
 
-LIMITS = {"m": (1, 16), "k": (2, 16), "most": (1, 65535)}
+LIMITS = {"m": (1, 16), "k": (2, 16), "most": (1, 24576)}
 MARK = 0x504B0001
 
 

@@ -4,7 +4,7 @@ the library does."""
 import random
 import sys
 
-from model import Model, corner, interleave, judge_image, squared_distance, words_needed
+from model import MARK, Model, corner, interleave, judge_image, squared_distance, usable, words_needed
 
 # m, k, the codes, and the entries of their image as level/code
 PANELS = [
@@ -121,7 +121,10 @@ def cases():
         yield [first.count(*window), first.list(*window, room=4)[0]], [(0, *counted), (0, *listed)]
     yield [first.count(*window) for window in ((9, 0, 8, 7), (8, 9, 9, 8))], [(8, 0, 0)] * 2
     yield (interleave(5, 3), interleave(65535, 65535)), (27, 4294967295)
-    yield [words_needed(k, most) for k, most in ((3, 9), (1, 9), (17, 9), (3, 0), (3, 65536))], [148, 0, 0, 0, 0]
+    yield [words_needed(k, most) for k, most in ((3, 9), (1, 9), (17, 9), (3, 0))], [148, 0, 0, 0]
+    yield [words_needed(3, most) for most in (24576, 24577, 65535)], [344072, 0, 0]
+    # in words enough for the largest most of older versions, so that only the most can be wrong
+    yield [usable([MARK, 3, 3, most] + [0] * 917508) for most in (24576, 24577, 65535)], [True, False, False]
     full = holding(3, 3, range(9))
     yield (full.mark(0, 0), full.mark(7, 7)), (5, 6)
     filled = holding(3, 3, [5, 9])

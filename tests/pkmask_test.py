@@ -21,6 +21,8 @@ CLEARED = entry_bytes(3, 3, 3, [(3, 0), (0, 0), (0, 2), (0, 60)])
 # the first panel's pixels by row: (0, 0), (1, 0), (0, 1) and (6, 6)
 PICTURE = b"P1\n# row 0 first\n8 8\n11000000\n10000000\n" + b"00000000\n" * 4 + b"00000010\n00000000\n"
 GRAY = b"P5\n8 8\n255\n" + bytes(255 if at in (0, 1, 8, 54) else 0 for at in range(64))
+# 96 rows of 256, which are the 24,576 pixels that a register holds at most
+LARGEST = b"P4\n256 256\n" + b"\xff" * (96 * 32) + bytes(160 * 32)
 PACKED = b"P4\n8 8\n" + bytes((0xC0, 0x80, 0, 0, 0, 0, 0x02, 0))
 
 FILES = {
@@ -39,6 +41,12 @@ FILES = {
     "short.pgm": GRAY[:-1],
     "half.pgm": GRAY[:-1] + b"\x80",
     "all.pbm": b"P4\n512 512\n" + b"\xff" * (512 * 64),
+    "largest.pbm": LARGEST,
+    "beyond.pbm": b"P4\n256 256\n" + b"\xff" * (96 * 32) + b"\x80" + bytes(160 * 32 - 1),
+    "older.pbm": b"P4\n256 256\n" + b"\xff" * (256 * 32 - 1) + b"\xfe",
+    # as many pixels as an older version could save, and as many blocks: the number of pixels is judged before the entries
+    "beyond.img": entry_bytes(8, 2, 24577, [(8, 0)] + [(0, code) for code in range(24577)]),
+    "older.img": entry_bytes(8, 2, 65535, [(8, 0)] * 65535 + [(0, code) for code in range(65535)]),
 }
 
 SHOWN = """order 3, side 8, k 3, blocks 2, pixels 4
@@ -49,7 +57,8 @@ pixel code 1: x 1, y 0
 pixel code 2: x 0, y 1
 pixel code 60: x 6, y 6
 """
-LIMITS = "refused 1: m, k or most is beyond its limits: m is 1 to 16, k 2 to 16, most 1 to 65535"
+LIMITS = "refused 1: m, k or most is beyond its limits: m is 1 to 16, k 2 to 16, most 1 to 24576"
+TOO_MANY = "more masked pixels than the 24576 that a register holds"
 CHANGED = "not a whole image: refused 12: no set of pixels has this image: its bytes were changed"
 CUT = "not a whole image: refused 10: not an image: under 10 bytes, or not as long as its number of entries asks"
 
@@ -69,6 +78,9 @@ RUNS = [
     ("image plain.pbm plain.img --k 3", 0, ""),
     ("image first.pbm packed.img --k 3", 0, ""),
     ("image gray.pgm gray.img --k 3", 0, ""),
+    ("image largest.pbm largest.img --k 3", 0, ""),
+    ("compare largest.img largest.img", 0, "the images mask alike, masked pixels: 24576\n"),
+    ("picture largest.img again.pbm", 0, ""),
     ("show missing.img", 2, "missing.img: No such file or directory"),
     ("show cut.img", 2, f"cut.img: {CUT}"),
     ("show empty.img", 2, f"empty.img: {CUT}"),
@@ -83,12 +95,16 @@ RUNS = [
     ("image short.pgm x.img --k 3", 2, "short.pgm: shorter than its sizes ask: 63 values of 64"),
     ("image half.pgm x.img --k 3", 2, "half.pgm: a value is neither 0 nor 255"),
     ("image first.img x.img --k 3", 2, "first.img: not a PBM or PGM picture"),
-    ("image all.pbm x.img --k 3", 2, "all.pbm: more masked pixels than the 65535 that a register holds"),
+    ("image all.pbm x.img --k 3", 2, f"all.pbm: {TOO_MANY}"),
+    ("image beyond.pbm x.img --k 3", 2, f"beyond.pbm: {TOO_MANY}"),
+    ("image older.pbm x.img --k 3", 2, f"older.pbm: {TOO_MANY}"),
+    ("show beyond.img", 2, f"beyond.img: {TOO_MANY}"),
+    ("show older.img", 2, f"older.img: {TOO_MANY}"),
     ("image plain.pbm x.img --k 17", 2, LIMITS),
 ]
 
 # what the runs above have written
-WRITTEN = {"first.pbm": PACKED, "first.pgm": GRAY, "plain.img": FIRST, "packed.img": FIRST, "gray.img": FIRST}
+WRITTEN = {"first.pbm": PACKED, "first.pgm": GRAY, "plain.img": FIRST, "packed.img": FIRST, "gray.img": FIRST, "again.pbm": LARGEST}
 
 
 def failure(folder, line, status, expected):

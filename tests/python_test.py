@@ -31,6 +31,16 @@ def raised(call, *arguments):
     return None
 
 
+def first_pixels(number):
+    """So many pixels of a panel of order 8, row by row."""
+    return [(at % 256, at // 256) for at in range(number)]
+
+
+def with_head(m, k, pixels):
+    """Bytes as long as an image of so many pixels in one block, and with its head."""
+    return bytes((m, k)) + (pixels + 1).to_bytes(4, "little") + pixels.to_bytes(4, "little") + bytes(5 * (pixels + 1))
+
+
 def without_library():
     """What is said where the library is not."""
     program = "import pkreg\ntry:\n    pkreg.words(3, 9)\nexcept pkreg.LibraryMissing as error:\n    print(error)"
@@ -62,7 +72,9 @@ def cases():
     yield [raised(register.nearest, *search) for search in ((8, 0, 0), (7, 0, 0), (0, 0, 2**32))], [(4, 0, True), (15, 0, True), "ValueError"]
     yield raised(register.load, b""), (10, 0, True)
     yield raised(Register.from_image, image[:9]), (10, 0, True)
-    yield [raised(Register.make, *sizes) for sizes in ((0, 3, 9), (3, 17, 9), (3, 3, 65536))], [(1, 0, True)] * 3
+    yield [raised(Register.make, *sizes) for sizes in ((0, 3, 9), (3, 17, 9), (3, 3, 24577), (3, 3, 65535))], [(1, 0, True)] * 4
+    yield (Register.make(3, 3, 24576).most, pkreg.LARGEST_MOST, pkreg.MEANINGS[1][-10:]), (24576, 24576, "1 to 24576")
+    yield [pkreg.words(3, most) for most in (24576, 24577, 65535)], [344072, 0, 0]
     yield [raised(register.mark, x, 0) for x in (-1, 2**32, 1.5, "1")], ["ValueError", "ValueError", "TypeError", "TypeError"]
     yield (pkreg.code_of(5, 3), pkreg.pixel_of(2**32 - 1)), (27, (65535, 65535))
     filled = Register.make(3, 3, 4)
@@ -82,6 +94,11 @@ def cases():
     yield (Register.from_pixels(3, 3, []).most, Register.from_pixels(3, 3, [(5, 5)], most=9).most), (1, 9)
     yield [raised(Register.from_pixels, *given) for given in ((3, 3, [(8, 0)]), (3, 3, [(0, 0), (1, 1)], 1), (17, 3, []))], [(4, 0, True), (6, 0, True), (1, 0, True)]
     yield raised(Register.from_pixels, 3, 3, [(-1, 0)]), (4, 0, True)
+    largest = Register.from_pixels(8, 3, first_pixels(24576))
+    yield (largest.most, largest.count(0, 0, 255, 255).found, Register.from_image(largest.save()).save() == largest.save()), (24576, 24576, True)
+    yield [raised(Register.from_pixels, 8, 3, first_pixels(number)) for number in (24577, 65535)], [(6, 0, True)] * 2
+    # only the head and the length of these bytes are an image's: they are judged first, by 11, and what is within that is refused with 12
+    yield [raised(Register.from_image, with_head(8, 3, number)) for number in (24576, 24577, 65535)], [(12, 0, True), (11, 0, True), (11, 0, True)]
     yield without_library(), "cannot open the library /nowhere/libpkreg.so: run 'make lib', or name it by PKREG_LIBRARY\n"
 
 

@@ -3,8 +3,8 @@
 from model import MARK, slots_for
 
 SPOILED = 0xFFFFFFFF
-# a place and a value with which the words are no register
-NO_REGISTER = ((0, 0), (0, MARK ^ 1), (1, 0), (1, 17), (2, 1), (2, 17), (3, 0), (3, 65536))
+# a place and a value with which the words are no register; an older version took a most of up to 65535
+NO_REGISTER = ((0, 0), (0, MARK ^ 1), (1, 0), (1, 17), (2, 1), (2, 17), (3, 0), (3, 24577), (3, 65535))
 
 
 def put_sizes_right(subject, model):

@@ -167,7 +167,8 @@ int main(void)
     mark_ring();
     among_many = stack_used(search_middle, large, LARGE);
     expect(nearest.refusal == PK_ACCEPTED && nearest.complete && nearest.distance < RADIUS * RADIUS, "the nearest pixel of a ring is not found");
-    expect(among_many > LARGE / 2, "a search in a ring did not need the many places");
+    /* the places for the blocks of the largest register alone take 289 KiB, and those of most searches 3 */
+    expect(among_many > LARGE / 4, "a search in a ring did not need the many places");
     printf("stack: every call at order %d with the deepest trees of k 2 to 16: %u bytes of %d used, ok\n", ORDER, (unsigned)used, SMALL);
     printf("stack: nearest on these trees: %u bytes; in a ring of %d blocks: %u bytes of %d used, ok\n", (unsigned)searching, RING / 2,
            (unsigned)among_many, LARGE);

@@ -3,3 +3,4 @@ pub mod Readings
 pub mod WholeImage
 pub mod Spoils
 pub mod NearestOfAll
+pub mod Ceilings

@@ -107,6 +107,19 @@ pub record NothingListed (before after : List ℕ) (a : Answer) : Type 0 where
   pub none : a ≡ accepted 0 0
   pub same : after ≡ before
 
+-- 02, P7: one more than the largest N is refused; the largest is made, in a store of so many words
+pub record TooMany (before after : List ℕ) (r : ℕ) : Type 0 where
+  pub number : r ≡ 1
+  pub same : after ≡ before
+
+pub record LargestMade (before : List ℕ) (r : ℕ) : Type 0 where
+  pub made : 258970 ≤ length before → r ≡ 0
+
+-- a store whose word 3 is above it is no register
+pub record OlderLeft (before after : List ℕ) (r : ℕ) : Type 0 where
+  pub number : 24576 < getD before 3 0 → r ≡ 3
+  pub same : 24576 < getD before 3 0 → after ≡ before
+
 -- a refused call changed nothing: a coordinate that is on no panel gives 3 or 4
 pub record OffEveryPanel (before after : List ℕ) (r : ℕ) : Type 0 where
   pub number : (r ≡ 3) ⊎ (r ≡ 4)

@@ -10,7 +10,7 @@ ghost use Rattle.promises.specs.Calls.{asked, windowGiven, slotsIn};
 ghost use Rattle.promises.proofs.Exactly.{MakeRefusals, PixelRefusals, WindowRefusals, LoadRefusals, FillRefusals, NearestRefusals, CheckAnswers};
 ghost use Rattle.promises.proofs.AnyWords.{Leaves, Bounded, SearchBounded, OutputLeft};
 ghost use Rattle.answers.specs.Answer.{answer, askAnswer, searchAnswer, countAnswer, listAnswer, saveAnswer, checkAnswer};
-ghost use Rattle.clients.specs.Known.{OffEveryPanel, BytesNeeded, FrontSaved, SavedWhole, WholeSearch};
+ghost use Rattle.clients.specs.Known.{OffEveryPanel, TooMany, LargestMade, OlderLeft, BytesNeeded, FrontSaved, SavedWhole, WholeSearch};
 use answers::Asking;
 use answers::Checking;
 use answers::Counting;
@@ -97,6 +97,26 @@ pub fn mark_off_panel(store: &mut [u32]) -> u32
     ensures { λ r. ⌜ OffEveryPanel (now (store .entry)) (now (store .exit)) r ⌝ }
 {
     answers::refusal_of(register::mark(store, 65536, 0))
+}
+
+// 02, P7: one more than the largest N.
+pub fn make_too_many(store: &mut [u32], m: u32, k: u32) -> u32
+    ensures { λ r. ⌜ TooMany (now (store .entry)) (now (store .exit)) r ⌝ }
+{
+    answers::refusal_of(register::make(store, m, k, 24577))
+}
+
+pub fn make_largest(store: &mut [u32]) -> u32
+    ensures { λ r. ⌜ LargestMade (now (store .entry)) r ⌝ }
+{
+    answers::refusal_of(register::make(store, 16, 16, 24576))
+}
+
+// A store that was made earlier, with a larger N.
+pub fn mark_older(store: &mut [u32], x: u32, y: u32) -> u32
+    ensures { λ r. ⌜ OlderLeft (now (store .entry)) (now (store .exit)) r ⌝ }
+{
+    answers::refusal_of(register::mark(store, x, y))
 }
 
 // The length that save returns, or needs.

@@ -5,6 +5,7 @@ use mathlib.Core.Path.{_≡_, refl, ap, ap₂, subst, sym, _∙_}
 use mathlib.Core.List.{List, _++_, append-nil}
 use lib.ListN.{length, getD, take, drop}
 use lib.Seq.{take-at, drop-at, drop-drop, take-all}
+use Rattle.measures.specs.Sizes.{largestMost}
 use Rattle.pktree.specs.Panel.{Panel, Valid}
 use Rattle.pktree.specs.PixelSet.{member, PixelSet}
 use Rattle.pktree.specs.Elements.{Forest, gather}
@@ -64,8 +65,8 @@ few-blocks zero m es h r = absurd (omega arith)
 few-blocks (suc zero) m es h r = absurd (omega arith)
 few-blocks (suc (suc j)) m es h r = omega (arith, blocks-take-pixels (suc j) m 0 (0 + 4 ^ m) es (r .arranged))
 
--- the entries of at most 65,535 pixels are far below 2 ^ 32
-entries-few : (panel : Panel) (set : List ℕ) → Valid panel → PixelSet panel set → length set ≤ 65535 → length (entries (tree panel (member set))) ≤ 131071
+-- the entries of the most pixels are far below 2 ^ 32
+entries-few : (panel : Panel) (set : List ℕ) → Valid panel → PixelSet panel set → length set ≤ largestMost → length (entries (tree panel (member set))) ≤ 1 + 2 * largestMost
 entries-few panel set valid h few =
     let es : Forest = gather (member set) (panel .k) (panel .order) 0 in
     let e : pixels es ≡ set = rw (append-nil (pixels es)) at (pixels-of-set panel set h) in
@@ -80,7 +81,7 @@ pub record SaysItself (panel : Panel) (set bytes : List ℕ) : Type 0 where
   pub k : getD bytes 1 0 ≡ panel .k
   pub pixels : pixelNumber bytes ≡ length set
 
-pub image-is-well-formed : (panel : Panel) (set bytes : List ℕ) → Valid panel → PixelSet panel set → length set ≤ 65535 → image panel set ≡ bytes → SaysItself panel set bytes
+pub image-is-well-formed : (panel : Panel) (set bytes : List ℕ) → Valid panel → PixelSet panel set → length set ≤ largestMost → image panel set ≡ bytes → SaysItself panel set bytes
 image-is-well-formed panel set bytes valid h few is = subst (SaysItself panel set) is whole-says
   where
     l : List Entry

@@ -17,11 +17,11 @@ panelOf sizes = record { order = sizes .order; k = sizes .k }
 abbrev pub registerMark : ℕ
 registerMark = 0x504B0001
 
--- 01: the largest N
+-- 02, P7: the largest N, in place of 01's
 abbrev pub largestMost : ℕ
-largestMost = 65535
+largestMost = 24576
 
--- m, k and N within 01's limits; N is `most`
+-- m, k and N within their limits; N is `most`
 pub record ValidSizes (sizes : Sizes) : Type 0 where
   pub panel : Valid (panelOf sizes)
   pub most-from : 1 ≤ sizes .most

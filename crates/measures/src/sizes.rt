@@ -7,8 +7,8 @@ ghost use Rattle.measures.specs.Layout.{LaidOut, LayoutWithin, storeEnd}
 use crate::slots::SLOT_HEAD;
 use crate::words::HEAD_WORDS;
 
-// 01: the largest N, in this one place.
-pub const LARGEST_MOST: u32 = 65535;
+// 02, P7: the largest N, in this one place.
+pub const LARGEST_MOST: u32 = 24576;
 
 // 01: word 0 of every register.
 const MARK: u32 = 0x504B0001;

@@ -223,13 +223,14 @@ fn limits() {
 }
 
 fn beyond_limits(store: &mut [u32]) {
-    io::write_all(1, b"\nk = 1 and 17, m = 0 and 17, N = 0 and 65536:");
+    io::write_all(1, b"\nk = 1 and 17, m = 0 and 17, N = 0, 24577 and 65535:");
     make(store, 3, 1, 9);
     make(store, 3, 17, 9);
     make(store, 0, 3, 9);
     make(store, 17, 3, 9);
     make(store, 3, 3, 0);
-    make(store, 3, 3, 65536);
+    make(store, 3, 3, 24577);
+    make(store, 3, 3, 65535);
     off_panel(store);
 }
 

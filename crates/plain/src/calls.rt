@@ -31,7 +31,7 @@ pub fn answered(refusal: u32, first: usize, second: usize) -> Answer {
 
 // 01: S = 1 + floor((N-1)/(k-1)) slots; the store needs 8 + S × (8 + 10(k-1)) words.
 pub fn words_needed(k: u32, most: u32) -> usize
-    requires { ⌜ (2 ≤ k) × (k ≤ 16) × (1 ≤ most) × (most ≤ 65535) ⌝ }
+    requires { ⌜ (2 ≤ k) × (k ≤ 16) × (1 ≤ most) × (most ≤ 24576) ⌝ }
 {
     let others = k - 1;
     let slots = 1 + (most - 1) / others;
@@ -39,7 +39,7 @@ pub fn words_needed(k: u32, most: u32) -> usize
 }
 
 pub fn make(m: u32, k: u32, most: u32, length: usize, set: &mut Set) -> u32 {
-    if m < 1 || 16 < m || k < 2 || 16 < k || most < 1 || 65535 < most {
+    if m < 1 || 16 < m || k < 2 || 16 < k || most < 1 || 24576 < most {
         return 1;
     }
     if length < words_needed(k, most) {

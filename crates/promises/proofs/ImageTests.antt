@@ -6,6 +6,7 @@ use mathlib.Core.Bool.{true}
 use mathlib.Core.List.{List, [], _∷_}
 use lib.Dec.{eqb}
 use borrow.Author.Tests.{eqb-true, eq-eqb}
+use Rattle.measures.specs.Sizes.{largestMost}
 use Rattle.pktree.specs.Panel.{Panel, Valid}
 use Rattle.pktree.specs.Image.{image}
 use Rattle.pktree.proofs.Absurd.{zero-is-not-one}
@@ -37,7 +38,7 @@ module _ (panel : Panel) (most : ℕ) (bytes : List ℕ) where
   test-passes set h = rw (set-passes panel most set (h .on-panel) (h .room), ← h .is) (same-passes (image panel set))
 
   -- the set that has this image is that of the entries of level 0
-  pub some-passes : Valid panel → most ≤ 65535 → SomeHasImage panel most bytes → isImageOf panel most bytes (pixelsOf bytes) ≡ true
+  pub some-passes : Valid panel → most ≤ largestMost → SomeHasImage panel most bytes → isImageOf panel most bytes (pixelsOf bytes) ≡ true
   some-passes valid limit s =
       let h = s .has-image in
       let formed = image-is-well-formed panel (s .set) bytes valid (h .on-panel) (omega (arith, h .room)) (h .is) .formed in

@@ -12,3 +12,4 @@ pub mod ImageTests
 pub mod Keeping
 pub mod Rising
 pub mod MarkedSingly
+pub mod Ceiling

@@ -12,6 +12,7 @@ use Rattle.pktree.proofs.LocalTest.{heads, slotTest, insideTest}
 use Rattle.store.specs.declared.elements.Element.{Element}
 use Rattle.store.specs.declared.elements.Element.the-variants.{Pixel, Block}
 use Rattle.measures.specs.Layout.{LayoutFits}
+use Rattle.measures.specs.Sizes.{largestMost}
 use Rattle.measures.specs.Slot.{slotPart, numberWord}
 use Rattle.store.specs.Placed.{Placed, slotsOf}
 use Rattle.store.proofs.Standing.{SlotSays, Stands}
@@ -31,7 +32,7 @@ pub record CanLook (limits : Limits) (words : List ℕ) : Type 0 where
   pub fits : LayoutFits (limits .layout) words
   pub k-from : 1 ≤ limits .k
   pub k-to : limits .k ≤ 16
-  pub most-to : limits .most ≤ 65535
+  pub most-to : limits .most ≤ largestMost
 
 pub record WithinLimits (limits : Limits) (seen : Seen) : Type 0 where
   pub blocks-to : seen .blocks ≤ limits .layout .slots

@@ -1,4 +1,5 @@
 ghost use Prim.Native.Nat.{_≤_};
+ghost use Rattle.measures.specs.Sizes.{largestMost};
 ghost use Rattle.soundness.specs.Walk.{CanWalk, OpenMeets, WalkMeets, CanWalkElement, WalkElementMeets, WithinLimits, PixelMeets};
 use inspection::pass::Passing;
 use inspection::pass::block_end;
@@ -98,7 +99,7 @@ pub fn walk_block(store: &[u32], limits: Limits, claim: Claim, seen: Seen) -> Wa
 
 // One pixel more, if it may be.
 fn see_pixel(limits: Limits, seen: Seen) -> Walked
-    requires { ⌜ (limits .most ≤ 65535) × WithinLimits limits seen ⌝ }
+    requires { ⌜ (limits .most ≤ largestMost) × WithinLimits limits seen ⌝ }
     ensures { λ r. ⌜ PixelMeets limits seen r ⌝ }
 {
     if limits.most <= seen.pixels {

@@ -261,7 +261,7 @@ fn fill_with(panel: Panel, store: &mut [u32], set: &mut Set, codes: &[u32]) -> S
 fn make(seed: u32, panel: Panel, store: &mut [u32], set: &mut Set) -> Step {
     let m = draws::number_drawn(seed, 7, panel.m, 0, 17);
     let k = draws::number_drawn(seed, 8, panel.k as u32, 1, 17);
-    let most = draws::number_drawn(seed, 9, panel.most, 0, 65536);
+    let most = draws::number_drawn(seed, 9, panel.most, 0, 24577);
     let got = refusal_of(register::make(store, m, k, most));
     refusals(got, calls::make(m, k, most, store.len(), set))
 }

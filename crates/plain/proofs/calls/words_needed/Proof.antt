@@ -6,10 +6,10 @@ use borrow.Author.Needs.{needs}
 use Rattle.plain.proofs.calls.words_needed.Statement.{statement}
 use Rattle.plain.proofs.calls.words_needed.Tie as tie
 
-slots : (k most : ℕ) → 1 ≤ most → most ≤ 65535 → 1 + (most - 1) / (k - 1) ≤ 65535
+slots : (k most : ℕ) → 1 ≤ most → most ≤ 24576 → 1 + (most - 1) / (k - 1) ≤ 24576
 slots k most least limit = omega (arith, div-le-self (most - 1) (k - 1))
 
-product : (k most : ℕ) → k ≤ 16 → 1 ≤ most → most ≤ 65535 → (1 + (most - 1) / (k - 1)) * (8 + 10 * (k - 1)) ≤ 10354530
+product : (k most : ℕ) → k ≤ 16 → 1 ≤ most → most ≤ 24576 → (1 + (most - 1) / (k - 1)) * (8 + 10 * (k - 1)) ≤ 3883008
 product k most small least limit =
     let width : 8 + 10 * (k - 1) ≤ 158 = omega arith in
     omega (arith, mul-le-mul (slots k most least limit) width)
