@@ -51,7 +51,7 @@ pub slot-long : (layout : Layout) (words : List ℕ) (slot : ℕ) → LayoutFits
     → length (slotPart (layout .width) words slot) ≡ layout .width
 slot-long layout words slot fits below = slot-length (layout .width) slot words (slot-within layout slot words fits below)
 
--- which 01's limits bound
+-- which the limits of k and N bound
 pub part-has-head : {layout : Layout} {words part : List ℕ} {slot : ℕ} → LayoutFits layout words → slot < layout .slots → part ≡ slotPart (layout .width) words slot
     → slotHead ≤ length part
 part-has-head {layout} {words} {slot = slot} fits below e = omega (arith, ap length e, slot-long layout words slot fits below, fits .within .width-from)

@@ -42,7 +42,7 @@ moreThanSlots = 1 + mostSlots
 abbrev pub levelAboveRoot : ℕ
 levelAboveRoot = 17
 
--- what 01's limits leave for a layout
+-- what the limits of k and N leave for a layout
 pub record LayoutWithin (layout : Layout) : Type 0 where
   pub width-from : narrowestSlot ≤ layout .width
   pub width-to : layout .width ≤ widestSlot
