@@ -7,7 +7,7 @@ use mathlib.Core.Path.{_≡_, refl, ap, subst, sym}
 use mathlib.Core.Bool.{Bool}
 use mathlib.Core.Logic.{_⊎_, inl, inr, _↔_}
 use mathlib.Core.List.{[], _++_, List·Memᴰ, List·Memᴰ·head, List·Memᴰ·tail, List·Memᴰ·not-nil, List·Memᴰ·cases-cons, List·Memᴰ·append-cases, Memᴰ·append-left, Memᴰ·append-right}
-use Rattle.pktree.specs.Panel.{Panel, Aligned}
+use Rattle.pktree.specs.Panel.{Panel, Aligned, Block}
 use Rattle.pktree.specs.Elements.{Forest, empty, pixel, block, _⧺_, size, give, gather}
 use Rattle.pktree.specs.Tree.{Instantiated, tree, BlockOf, blockOf, blocks}
 use Rattle.pktree.proofs.Forests.{blocks-join, cond-case, give-case}
@@ -128,6 +128,12 @@ gather-has-many M k (suc i) c a =
     (has-many-join M k i (c + 4 ^ i) (c + 2 * 4 ^ i) (c + 4 ^ suc i) a2 (omega arith) (omega arith) g1
     (has-many-join M k i (c + 2 * 4 ^ i) (c + 3 * 4 ^ i) (c + 4 ^ suc i) a3 (omega arith) (omega arith) g2 g3))
 
+-- a block of the panel ends on it
+pub block-ends : {panel : Panel} {level code : ℕ} → Block panel level code → code + 4 ^ level ≤ 4 ^ panel .order
+block-ends {panel} {level} {code} b =
+    let a : Aligned (panel .order) (0 + 4 ^ panel .order) = aligned-next (panel .order) 0 (aligned-root (panel .order)) in
+    omega (arith, blocks-nest level (panel .order) code (0 + 4 ^ panel .order) (b .low) (b .aligned) a (omega (arith, b .corner)))
+
 pub in-tree-exactly-instantiated : (panel : Panel) (M : ℕ → Bool) (level code : ℕ) (es : Forest)
     → List·Memᴰ (blockOf level code es) (blocks (tree panel M)) ↔ (Instantiated panel M level code × (es ≡ gather M (panel .k) level code))
 in-tree-exactly-instantiated panel M level code es = (
@@ -151,14 +157,9 @@ in-tree-exactly-instantiated panel M level code es = (
           h .elements,
         )
 
-    ends : Instantiated panel M level code → code + 4 ^ level ≤ 0 + 4 ^ panel .order
-    ends h =
-        let a = aligned-next (panel .order) 0 (aligned-root (panel .order)) in
-        blocks-nest level (panel .order) code (0 + 4 ^ panel .order) (h .of-panel .low) (h .of-panel .aligned) a (omega arith)
-
     back : Instantiated panel M level code → es ≡ gather M (panel .k) level code → (level ≡ panel .order) ⊎ (level < panel .order)
         → (level ≡ panel .order) ⊎ (panel .k ≤ size (gather M (panel .k) level code)) → ItOrInside (panel .order) 0 root (blockOf level code es)
-    back h e (inl l) n = inl (same-block M (panel .k) (panel .order) 0 level code es l (omega arith) (ends h) e)
+    back h e (inl l) n = inl (same-block M (panel .k) (panel .order) 0 level code es l (omega arith) (omega (arith, block-ends (h .of-panel))) e)
     back h e (inr l) (inl n) = absurd (omega arith)
     back h e (inr l) (inr n) =
-        inr (inside .all level code es (record { below = l; aligned = h .of-panel .aligned; starts = omega arith; ends = ends h; enough = n; elements = e }))
+        inr (inside .all level code es (record { below = l; aligned = h .of-panel .aligned; starts = omega arith; ends = omega (arith, block-ends (h .of-panel)); enough = n; elements = e }))

@@ -17,6 +17,7 @@ pub mod LocalTest
 pub mod OneChange
 pub mod Images
 pub mod InTree
+pub mod SmallestBlocks
 pub mod Windows
 pub mod Parts
 pub mod WindowParts

@@ -3,6 +3,7 @@ pub mod Panel
 pub mod PixelSet
 pub mod Elements
 pub mod Tree
+pub mod SmallestBlock
 pub mod Entries
 pub mod Image
 pub mod Window

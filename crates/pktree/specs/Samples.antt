@@ -1,4 +1,4 @@
--- 01 "Sample panels": the starred lines, of the definitions, in one theorem; and 02, P4 on one of them.
+-- 01 "Sample panels": the starred lines, of the definitions, in one theorem; and 02, P4 and P8 on one of them.
 use Prim.Native.Nat.{ℕ}
 use mathlib.Core.Path.{_≡_}
 use mathlib.Core.List.{List, [], _∷_}
@@ -7,6 +7,7 @@ use Rattle.pktree.specs.Panel.{Panel}
 use Rattle.pktree.specs.PixelSet.{member, added, removed}
 use Rattle.pktree.specs.Elements.{size, gather}
 use Rattle.pktree.specs.Tree.{tree}
+use Rattle.pktree.specs.SmallestBlock.{Smallest, pixelElements}
 use Rattle.pktree.specs.Window.{Window, testedByWindow}
 use Rattle.pktree.specs.Entries.{Entry, entry, entries}
 
@@ -21,7 +22,7 @@ abbrev entriesOf : Panel → List ℕ → List Entry
 entriesOf p set = entries (tree p (member set))
 
 -- the panels of three lines, from which the lines after them go on
-abbrev first-panel : List ℕ
+abbrev pub first-panel : List ℕ
 first-panel = 0 ∷ 1 ∷ 2 ∷ 60 ∷ []
 
 abbrev second-panel : List ℕ
@@ -63,3 +64,13 @@ pub record TestedSingly : Type 0 where
   pub whole-panel : testedByWindow (between 0 0 7 7) (tree panel (member first-panel)) ≡ 0
   pub without-last-column : testedByWindow (between 0 0 6 7) (tree panel (member first-panel)) ≡ 2
   pub one-pixel : testedByWindow (between 0 0 0 0) (tree panel (member first-panel)) ≡ 5
+
+-- 02, P8, of the first panel: the smallest block around (0, 0), which is marked, and around (1, 1), code 3, which is not, is that of level 1; around
+-- (3, 3), code 15, it is the root
+pub record FirstLocated : Type 0 where
+  pub at-0 : Smallest panel (member first-panel) 0 1 0
+  pub at-3 : Smallest panel (member first-panel) 3 1 0
+  pub at-15 : Smallest panel (member first-panel) 15 3 0
+  -- the pixels 0 to 2 are no elements of the root
+  pub elements-of-root : pixelElements (gather (member first-panel) 3 3 0) ≡ 60 ∷ []
+  pub elements-of-block : pixelElements (gather (member first-panel) 3 1 0) ≡ 0 ∷ 1 ∷ 2 ∷ []
