@@ -3,7 +3,7 @@ use Prim.Native.Nat.{ℕ}
 use Rattle.answers.specs.declared.Refusal.{Refusal}
 use Rattle.answers.specs.declared.Refusal.the-variants.{BeyondLimits, StoreTooShort, NoRegister, OffPanel, AlreadyMarked, Full, NotMarked, WindowReversed, OutputTooShort, NotAnImage, ImageUnlike, ImageDamaged, StoreDamaged, NotAscending, NoBudget}
 use Rattle.searching.specs.Nearest as search
-use Rattle.promises.specs.Answer.{Answer, accepted, refused, short, yesNo, searched}
+use Rattle.promises.specs.Answer.{Answer, accepted, refused, short, searched, located}
 use Rattle.answers.specs.declared.Outcome.{Outcome}
 use Rattle.answers.specs.declared.Outcome.the-variants as outcome
 use Rattle.answers.specs.declared.Asking.{Asking}
@@ -44,7 +44,7 @@ answer outcome.Done = accepted 0 0
 answer (outcome.Refused refusal) = refused (numberOf refusal)
 
 abbrev pub askAnswer : Asking → Answer
-askAnswer (asking.Answered marked opened) = accepted (yesNo marked) opened
+askAnswer (asking.Answered place) = located (place .marked) (place .opened) (place .level) (place .code)
 askAnswer (asking.Refused refusal) = refused (numberOf refusal)
 
 abbrev pub countAnswer : Counting → Answer

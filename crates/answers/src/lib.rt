@@ -62,9 +62,17 @@ pub fn refusal_of(outcome: Outcome) -> u32
     }
 }
 
+// Whether a pixel is marked, the blocks opened, and 02, P8: the level and code of the smallest block that contains it.
+pub struct Place {
+    pub marked: bool,
+    pub opened: usize,
+    pub level: u32,
+    pub code: u32,
+}
+
 // What ask answers.
 pub enum Asking {
-    Answered { marked: bool, opened: usize },
+    Answered(Place),
     Refused(Refusal),
 }
 

@@ -1,4 +1,4 @@
--- What the descent finds is what ask answers.
+-- What the descent finds is what ask answers: the smallest block, and by its law whether the pixel is marked.
 use Prim.Native.Nat.{ℕ, suc, _+_}
 use native.Mathlib.Omega.{arith}
 use mathlib.Core.Path.{_≡_, refl, ap, ap₂, subst, sym, _∙_}
@@ -20,8 +20,9 @@ use Rattle.store.specs.Opening.{HeaderSays, RootCannotOpen}
 use Rattle.store.proofs.Held.{tree-of-held}
 use Rattle.descent.specs.declared.Located.{Located}
 use Rattle.descent.specs.Located.{LocateMeets}
-use Rattle.descent.proofs.OpenedByPixel.{opened-by-pixel, marked-exactly}
-use Rattle.promises.specs.Answer.{accepted, refused, yesNo}
+use Rattle.descent.proofs.OpenedByPixel.{opened-by-pixel}
+use Rattle.descent.proofs.SmallestLocated.{located-smallest, marked-exactly}
+use Rattle.promises.specs.Answer.{refused, located}
 use Rattle.promises.specs.Effect.{effect}
 use Rattle.promises.specs.Calls.{Asks}
 use Rattle.promises.proofs.Answers.{yes-no-to}
@@ -40,17 +41,27 @@ module _ (words : List ℕ) (code : ℕ) (sizes : Sizes) (layout : Layout) (slot
   shut h = m .closed (λ s. h (subst (λ (l : ℕ). HeaderSays (slotPart (slotWidth (sizesOf words .k)) words 0) l 0 (countWord (slotPart (slotWidth (sizesOf words .k)) words 0))) order-is
       (subst (λ (w : ℕ). HeaderSays (slotPart w words 0) (sizes .order) 0 (countWord (slotPart w words 0))) (ap (λ (l : Layout). l .width) layout-is) s)))
 
-  pub asked-known : r .damaged ≡ false → Asks words code (effect (accepted (yesNo (r .marked)) (r .depth + 1)) words words)
+  pub asked-known : r .damaged ≡ false → Asks words code (effect (located (r .marked) (r .depth + 1) (r .level) (r .block)) words words)
   asked-known ok =
       record {
-        ends = inl (record { accepted = refl; first-to = yes-no-to (r .marked); second-to = omega (arith, m .bounds ok .deep, m .bounds ok .level-from, order-is); no-further = refl });
+        ends = inl (record {
+          accepted = refl;
+          marked-to = yes-no-to (r .marked);
+          opened-to = omega (arith, m .bounds ok .deep, m .bounds ok .level-from, order-is);
+          level-to = omega (arith, m .bounds ok .deep, order-is);
+        });
         spoiled = λ s. zero-is-not-one (cc (shut (spoiled-shut words usable s), ok));
         sound = λ set holds.
             let s = holds .sound in
             let l = m .sound (holds .placed) s layout-is order-is on .1 in
             let marked : member set code ≡ r .marked = ap (λ (t : List ℕ). member t code) (sym (holds .set-is)) ∙ marked-exactly s l in
             let opened : openedByPixel code (tree (panelOf (sizesOf words)) (member set)) ≡ suc (r .depth) = ap (openedByPixel code) (sym (tree-of-held holds)) ∙ opened-by-pixel s l in
-            record { is = ap₂ (λ (b : Bool) (n : ℕ). accepted (yesNo b) n) (sym marked) (omega (arith, opened)); same = refl };
+            record {
+              level = r .level;
+              block = r .block;
+              smallest = rw (← holds .set-is) (located-smallest s l);
+              returns = record { is = ap₂ (λ (b : Bool) (n : ℕ). located b n (r .level) (r .block)) (sym marked) (omega (arith, opened)); same = refl };
+            };
       }
 
   pub asked-damaged : r .damaged ≡ true → Asks words code (effect (refused 13) words words)

@@ -10,8 +10,10 @@ use Rattle.pktree.specs.Panel.{HasPixel}
 use Rattle.pktree.specs.PixelSet.{member}
 use Rattle.pktree.specs.Elements.{gather}
 use Rattle.pktree.specs.Tree.{tree}
+use Rattle.pktree.specs.SmallestBlock.{Smallest}
 use Rattle.pktree.specs.Window.{Ordered, someFrom, everyFrom, openedByPixel}
 use Rattle.pktree.specs.Image.{image}
+use Rattle.pktree.proofs.Samples.{first-located}
 use Rattle.searching.specs.Distance.{squaredDistance, blockDistance}
 use Rattle.searching.specs.Search.{continued}
 use Rattle.searching.specs.NearestPromises.{nearestOn}
@@ -19,14 +21,14 @@ use Rattle.measures.specs.declared.sizes.Sizes.{Sizes}
 use Rattle.measures.specs.Sizes.{panelOf, sizesOf}
 use Rattle.promises.specs.Effect.{HasPixelOn}
 use Rattle.image.specs.Held.{HasImage}
-use Rattle.promises.specs.Answer.{Answer, accepted, yesNo, searched}
+use Rattle.promises.specs.Answer.{Answer, accepted, searched, located}
 use Rattle.promises.specs.Calls.{asked, MarkMeets, ClearMeets, AskMeets, NearestMeets, windowGiven, CountMeets, ListMeets, SaveMeets, LoadMeets, FillMeets, CheckMeets}
 use Rattle.promises.proofs.Answers.{refusal-of}
 use Rattle.promises.proofs.Exactly.{image-loaded, set-filled, check-answers}
-use Rattle.promises.proofs.OnSound.{mark-already, clear-unmarked, clear-removes, ask-answers, count-answers, list-writes, list-short, save-writes, save-short}
+use Rattle.promises.proofs.OnSound.{mark-already, clear-unmarked, clear-removes, ask-answers, ask-element, count-answers, list-writes, list-short, save-writes, save-short}
 use Rattle.promises.proofs.WholePanel.{count-whole}
 use Rattle.promises.proofs.Nearest.{nearest-answers}
-use Rattle.clients.specs.Known.{firstSet, HoldsOf9, HoldsFirst, firstImage, PanelAsked, values, PanelSearched, partFound, partListed, partCounted, PanelCounted, PanelListed, PanelSaved, ClearedListed, SpoiltOf9}
+use Rattle.clients.specs.Known.{firstSet, HoldsOf9, HoldsFirst, firstImage, PanelAsked, ElementAsked, values, PanelSearched, partFound, partListed, partCounted, PanelCounted, PanelListed, PanelSaved, ClearedListed, SpoiltOf9}
 
 -- the set is one of the panel, and its image is these bytes, by computation
 has-image : HasImage (panelOf (asked 3 3 9)) 9 firstImage firstSet
@@ -41,13 +43,33 @@ has-image = record {
 }
 
 -- what the definitions say of it, by computation
-marked-0 : accepted (yesNo (member firstSet (codeOf 0 0))) (openedByPixel (codeOf 0 0) (tree (panelOf (asked 3 3 9)) (member firstSet))) ≡ accepted 1 2
-unfolding interleave gather
+code-0 : codeOf 0 0 ≡ 0
+unfolding interleave
+code-0 = refl
+
+code-3 : codeOf 1 1 ≡ 3
+unfolding interleave
+code-3 = refl
+
+code-15 : codeOf 3 3 ≡ 15
+unfolding interleave
+code-15 = refl
+
+-- the pixel's answer, with a block
+told : ℕ → ℕ → ℕ → Answer
+told code level block = located (member firstSet code) (openedByPixel code (tree (panelOf (asked 3 3 9)) (member firstSet))) level block
+
+marked-0 : told 0 1 0 ≡ located true 2 1 0
+unfolding gather told
 marked-0 = refl
 
-unmarked-3 : accepted (yesNo (member firstSet (codeOf 1 1))) (openedByPixel (codeOf 1 1) (tree (panelOf (asked 3 3 9)) (member firstSet))) ≡ accepted 0 2
-unfolding interleave gather
+unmarked-3 : told 3 1 0 ≡ located false 2 1 0
+unfolding gather told
 unmarked-3 = refl
+
+unmarked-15 : told 15 3 0 ≡ located false 1 3 0
+unfolding gather told
+unmarked-15 = refl
 
 rough-search : nearestOn (panelOf (asked 3 3 9)) firstSet (codeOf 1 1) 1 ≡ values true 60 50 1 0 false
 unfolding interleave gather gatherBits squaredDistance blockDistance continued
@@ -91,11 +113,24 @@ image-is = refl
 pub marked-first : {start words : List ℕ} → HoldsOf9 firstSet start words → HoldsFirst words
 marked-first h = record { holds = h .holds; sizes-are = h .sizes-are }
 
-pub ask-marked : {a : Answer} → PanelAsked 0 0 a → a ≡ accepted 1 2
-ask-marked p = p .says (omega arith, omega arith) ∙ marked-0
+-- 02, P8: the law, of any store
+pub element-asked : {words : List ℕ} {x y : ℕ} {a : Answer} → AskMeets words x y a → ElementAsked words x y a
+element-asked m = record { exactly = λ set holds on. ask-element holds m on }
 
-pub ask-unmarked : {a : Answer} → PanelAsked 1 1 a → a ≡ accepted 0 2
-ask-unmarked p = p .says (omega arith, omega arith) ∙ unmarked-3
+-- ask of a pixel whose smallest block is known
+asked-at : {a : Answer} {x y : ℕ} (code level block : ℕ) → codeOf x y ≡ code → HasPixel (panelOf (asked 3 3 9)) x y → Smallest (panelOf (asked 3 3 9)) (member firstSet) code level block
+    → PanelAsked x y a → a ≡ told code level block
+unfolding told
+asked-at code level block e on s p = rw e at (p .says level block on (rw e s))
+
+pub ask-marked : {a : Answer} → PanelAsked 0 0 a → a ≡ located true 2 1 0
+ask-marked p = asked-at 0 1 0 code-0 (omega arith, omega arith) (first-located .at-0) p ∙ marked-0
+
+pub ask-unmarked : {a : Answer} → PanelAsked 1 1 a → a ≡ located false 2 1 0
+ask-unmarked p = asked-at 3 1 0 code-3 (omega arith, omega arith) (first-located .at-3) p ∙ unmarked-3
+
+pub ask-root : {a : Answer} → PanelAsked 3 3 a → a ≡ located false 1 3 0
+ask-root p = asked-at 15 3 0 code-15 (omega arith, omega arith) (first-located .at-15) p ∙ unmarked-15
 
 pub nearest-rough : {a : Answer} → PanelSearched 1 1 1 a → a ≡ searched (values true 60 50 1 0 false)
 nearest-rough p = p .says (omega arith, omega arith) (omega arith) ∙ ap searched rough-search
@@ -126,9 +161,10 @@ module _ {words : List ℕ} (h : HoldsFirst words) where
 module _ {words : List ℕ} (h : HoldsFirst words) {a : Answer} where
   pub asked-panel : {x y : ℕ} → AskMeets words x y a → PanelAsked x y a
   asked-panel {x} {y} m = record {
-    says = λ on. subst
-        (λ (s : Sizes). HasPixel (panelOf s) x y → a ≡ accepted (yesNo (member firstSet (codeOf x y))) (openedByPixel (codeOf x y) (tree (panelOf s) (member firstSet))))
-        (h .sizes-are) (ask-answers (h .holds) m) on;
+    says = λ level block. subst
+        (λ (s : Sizes). HasPixel (panelOf s) x y → Smallest (panelOf s) (member firstSet) (codeOf x y) level block
+        → a ≡ located (member firstSet (codeOf x y)) (openedByPixel (codeOf x y) (tree (panelOf s) (member firstSet))) level block)
+        (h .sizes-are) (ask-answers (h .holds) m);
   }
 
   pub searched-panel : {x y budget : ℕ} → NearestMeets words x y budget a → PanelSearched x y budget a

@@ -19,7 +19,7 @@ use Rattle.promises.proofs.Answers.{refusal-of, first-of}
 use Rattle.promises.proofs.Ladder.{number-is}
 use Rattle.promises.proofs.Exactly.{mark-refusals, clear-refusals, count-refusals, list-refusals, check-answers}
 use Rattle.promises.proofs.AnyWords.{mark-leaves, clear-leaves, list-leaves}
-use Rattle.promises.proofs.OnSound.{ask-answers, mark-spoiled, clear-spoiled, ask-spoiled, nearest-spoiled, count-spoiled, list-spoiled, save-spoiled}
+use Rattle.promises.proofs.OnSound.{ask-accepted, mark-spoiled, clear-spoiled, ask-spoiled, nearest-spoiled, count-spoiled, list-spoiled, save-spoiled}
 use Rattle.clients.specs.Known.{Overwritten, SpoiltOf9, DamagedThenUnusable, NothingListed, OffEveryPanel}
 use Rattle.clients.proofs.Marks.{made-9}
 use Rattle.store.specs.Sound.{IsSound}
@@ -95,7 +95,7 @@ module _ {words : List ℕ} (s : SpoiltOf9 words) where
             omega (
               arith,
               refusal-of (ask-spoiled (s .usable) (s .spoilt) (pixel-on (omega arith, omega arith)) m),
-              refusal-of (ask-answers (record { placed = i .placed; sound = i .sound; set-is = refl }) m (pixel-on (omega arith, omega arith))),
+              ask-accepted (record { placed = i .placed; sound = i .sound; set-is = refl }) m (pixel-on (omega arith, omega arith)),
             )
 
 -- 65536 is a coordinate of no panel

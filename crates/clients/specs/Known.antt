@@ -9,18 +9,19 @@ use Rattle.morton.specs.Code.{codeOf}
 use Rattle.pktree.specs.Panel.{HasPixel}
 use Rattle.pktree.specs.PixelSet.{member}
 use Rattle.pktree.specs.Tree.{tree}
+use Rattle.pktree.specs.SmallestBlock.{Smallest, IsElement}
 use Rattle.pktree.specs.Window.{Window, Ordered, partOn, found, openedByPixel, openedByWindow, crossedByWindow}
 use Rattle.searching.specs.Nearest.{Nearest}
 use Rattle.searching.specs.NearestPromises.{nearestOn}
 use Rattle.measures.specs.declared.sizes.Sizes.{Sizes}
 use Rattle.measures.specs.Sizes.{panelOf, sizesOf, UsableStore}
 use Rattle.store.specs.Sound.{Holds}
-use Rattle.promises.specs.Answer.{Answer, accepted, yesNo, searched}
+use Rattle.promises.specs.Answer.{Answer, accepted, searched, located}
 use Rattle.promises.specs.Effect.{HasPixelOn}
 use Rattle.promises.specs.Walk.{Spoiled}
 use Rattle.promises.specs.Calls.{asked, imageOf}
 use Rattle.promises.proofs.Nearest.{NearestOfAll}
-use mathlib.Core.Logic.{_⊎_}
+use mathlib.Core.Logic.{_⊎_, _↔_}
 
 abbrev pub firstSet : List ℕ
 firstSet = 0 ∷ 1 ∷ 2 ∷ 60 ∷ []
@@ -44,10 +45,10 @@ firstImage =
     ++ ((0 ∷ 0 ∷ 0 ∷ 0 ∷ 0 ∷ 0 ∷ 0 ∷ 0 ∷ 0 ∷ 0 ∷ 0 ∷ 0 ∷ 1 ∷ 0 ∷ 0 ∷ 0 ∷ 2 ∷ 0 ∷ 0 ∷ 0 ∷ 60 ∷ 0 ∷ 0 ∷ 0 ∷ [])
     ++ (3 ∷ 1 ∷ 0 ∷ 0 ∷ 0 ∷ 0 ∷ []))
 
--- ask: whether the code is in the set, and how many blocks of its tree contain it
+-- ask: whether the code is in the set, how many blocks of its tree contain it, and whichever is the smallest of them
 pub record PanelAsked (x y : ℕ) (a : Answer) : Type 0 where
-  pub says : HasPixel (panelOf (asked 3 3 9)) x y
-      → a ≡ accepted (yesNo (member firstSet (codeOf x y))) (openedByPixel (codeOf x y) (tree (panelOf (asked 3 3 9)) (member firstSet)))
+  pub says : (level block : ℕ) → HasPixel (panelOf (asked 3 3 9)) x y → Smallest (panelOf (asked 3 3 9)) (member firstSet) (codeOf x y) level block
+      → a ≡ located (member firstSet (codeOf x y)) (openedByPixel (codeOf x y) (tree (panelOf (asked 3 3 9)) (member firstSet))) level block
 
 -- 02's six values
 abbrev pub values : Bool → ℕ → ℕ → ℕ → ℕ → Bool → Nearest
@@ -137,6 +138,11 @@ pub record FrontSaved (words before after : List ℕ) (n r : ℕ) : Type 0 where
 pub record SavedWhole (words before after : List ℕ) (r : ℕ) : Type 0 where
   pub saved : (set : List ℕ) → Holds words set → length (imageOf words set) ≤ length before
       → (r ≡ length (imageOf words set)) × (after ≡ imageOf words set ++ drop (length (imageOf words set)) before)
+
+-- 02, P8, of any words: where a store holds a set, the pixel is marked exactly when it is an element of the block told
+pub record ElementAsked (words : List ℕ) (x y : ℕ) (a : Answer) : Type 0 where
+  pub exactly : (set : List ℕ) → Holds words set → HasPixelOn words x y
+      → (a .first ≡ 1) ↔ IsElement (panelOf (sizesOf words)) (member set) (codeOf x y) (a .further .level) (a .further .code)
 
 -- 02, P5: the nearest of all, at the limit; or nothing is marked
 pub record WholeSearch (words : List ℕ) (x y : ℕ) (a : Answer) : Type 0 where

@@ -8,9 +8,9 @@ ghost use Rattle.image.specs.Held.{mostBytes};
 ghost use Rattle.promises.specs.Effect.{effect};
 ghost use Rattle.promises.specs.Calls.{asked, windowGiven, slotsIn};
 ghost use Rattle.promises.proofs.Exactly.{MakeRefusals, PixelRefusals, WindowRefusals, LoadRefusals, FillRefusals, NearestRefusals, CheckAnswers};
-ghost use Rattle.promises.proofs.AnyWords.{Leaves, Bounded, SearchBounded, OutputLeft};
+ghost use Rattle.promises.proofs.AnyWords.{Leaves, Bounded, PlaceBounded, SearchBounded, OutputLeft};
 ghost use Rattle.answers.specs.Answer.{answer, askAnswer, searchAnswer, countAnswer, listAnswer, saveAnswer, checkAnswer};
-ghost use Rattle.clients.specs.Known.{OffEveryPanel, TooMany, LargestMade, OlderLeft, BytesNeeded, FrontSaved, SavedWhole, WholeSearch};
+ghost use Rattle.clients.specs.Known.{OffEveryPanel, TooMany, LargestMade, OlderLeft, BytesNeeded, FrontSaved, SavedWhole, WholeSearch, ElementAsked};
 use answers::Asking;
 use answers::Checking;
 use answers::Counting;
@@ -50,7 +50,14 @@ pub fn fill(store: &mut [u32], codes: &[u32]) -> Outcome
 }
 
 pub fn ask(store: &[u32], x: u32, y: u32) -> Asking
-    ensures { λ r. ⌜ PixelRefusals (now (store .entry)) x y (askAnswer r) × Bounded 1 (sizesOf (now (store .entry)) .order) (askAnswer r) ⌝ }
+    ensures { λ r. ⌜ PixelRefusals (now (store .entry)) x y (askAnswer r) × PlaceBounded (sizesOf (now (store .entry)) .order) (askAnswer r) ⌝ }
+{
+    register::ask(store, x, y)
+}
+
+// 02, P8: the law of the block told, on whatever set the store holds.
+pub fn ask_element(store: &[u32], x: u32, y: u32) -> Asking
+    ensures { λ r. ⌜ ElementAsked (now (store .entry)) x y (askAnswer r) ⌝ }
 {
     register::ask(store, x, y)
 }

@@ -2,7 +2,7 @@ ghost use Prim.Native.Nat.{_≤_};
 ghost use mathlib.Core.Path.{_≡_};
 ghost use lib.ListN.{length};
 ghost use mathlib.Core.Bool.{true, false};
-ghost use Rattle.promises.specs.Answer.{accepted, searched};
+ghost use Rattle.promises.specs.Answer.{accepted, searched, located};
 ghost use Rattle.promises.specs.Calls.{windowGiven};
 ghost use Rattle.answers.specs.Answer.{askAnswer, searchAnswer, countAnswer, listAnswer, saveAnswer};
 ghost use Rattle.clients.specs.Known.{firstSet, HoldsOf9, PanelAsked, PanelSearched, values, PanelCounted, PanelListed, PanelSaved, ClearedListed};
@@ -36,18 +36,26 @@ fn ask_panel(store: &mut [u32], x: u32, y: u32) -> Asking
 
 // 01: (0, 0) is marked; the root and the block 1/0 contain it.
 pub fn ask_marked() -> Asking
-    ensures { λ r. ⌜ askAnswer r ≡ accepted 1 2 ⌝ }
+    ensures { λ r. ⌜ askAnswer r ≡ located true 2 1 0 ⌝ }
 {
     let mut store = [0u32; 148];
     ask_panel(&mut store, 0, 0)
 }
 
-// 01: ask (1, 1) is no, 2 opened.
+// 01: ask (1, 1) is no, 2 opened; 02, P8: the block 1/0 is the smallest around it.
 pub fn ask_unmarked() -> Asking
-    ensures { λ r. ⌜ askAnswer r ≡ accepted 0 2 ⌝ }
+    ensures { λ r. ⌜ askAnswer r ≡ located false 2 1 0 ⌝ }
 {
     let mut store = [0u32; 148];
     ask_panel(&mut store, 1, 1)
+}
+
+// 01: ask (3, 3) is no, 1 opened; 02, P8: only the root is around it.
+pub fn ask_root() -> Asking
+    ensures { λ r. ⌜ askAnswer r ≡ located false 1 3 0 ⌝ }
+{
+    let mut store = [0u32; 148];
+    ask_panel(&mut store, 3, 3)
 }
 
 // nearest on it.

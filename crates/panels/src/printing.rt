@@ -5,6 +5,7 @@ use answers::Asking;
 use answers::Counting;
 use answers::Nearest;
 use answers::Outcome;
+use answers::Place;
 use answers::Refusal;
 use answers::Searching;
 use answers::number_of;
@@ -32,17 +33,24 @@ pub fn print_number(title: &[u8], number: u64) {
     io::print_decimal(1, number);
 }
 
+// Marked or not, the blocks opened, and the smallest block by level and code.
+fn print_place(place: Place) {
+    if place.marked {
+        io::write_all(1, b" yes, opened ");
+    } else {
+        io::write_all(1, b" no, opened ");
+    }
+    io::print_decimal(1, place.opened as u64);
+    print_number(b", smallest block ", place.level as u64);
+    print_number(b"/", place.code as u64);
+}
+
 pub fn print_asking(asking: Asking) -> u32
     ensures { λ r. ⌜ r ≡ askAnswer asking .refusal ⌝ }
 {
     match asking {
-        Asking::Answered { marked, opened } => {
-            if marked {
-                io::write_all(1, b" yes, opened ");
-            } else {
-                io::write_all(1, b" no, opened ");
-            }
-            io::print_decimal(1, opened as u64);
+        Asking::Answered(place) => {
+            print_place(place);
             0
         }
         Asking::Refused(refusal) => print_refusal(refusal),

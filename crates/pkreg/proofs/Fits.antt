@@ -4,9 +4,9 @@ use native.Mathlib.Omega.{arith}
 use native.Mathlib.Nat.{div-le-self}
 use mathlib.Core.Path.{_≡_, ap}
 use mathlib.Core.Logic.{⊎-elim}
-use mathlib.Core.Bool.{Bool}
 use mathlib.Core.List.{List}
 use Rattle.image.specs.Held.{mostBytes}
+use Rattle.answers.specs.declared.Place.{Place}
 use Rattle.answers.specs.declared.Asking.{Asking}
 use Rattle.answers.specs.declared.Asking.the-variants as asking
 use Rattle.answers.specs.declared.Saving.{Saving}
@@ -25,9 +25,9 @@ module _ {words : List ℕ} where
   ask-fits : (x y : ℕ) (a : Answer) → AskMeets words x y a → a .second < 2 ^ 32
   ask-fits x y a (stopped fails r) = none a 3 (r .is) .1
   ask-fits x y a (passed u (stopped off r)) = none a 4 (r .is) .1
-  ask-fits x y a (passed u (passed on w)) = ⊎-elim (λ b. omega (arith, b .second-to, u .valid .panel .order-to)) (λ d. none a 13 (d .0) .1) (w .ends)
+  ask-fits x y a (passed u (passed on w)) = ⊎-elim (λ b. omega (arith, b .opened-to, u .valid .panel .order-to)) (λ d. none a 13 (d .0) .1) (w .ends)
 
-  pub opened-fits : {x y opened : ℕ} {marked : Bool} {r : Asking} → r ≡ asking.Answered marked opened → AskMeets words x y (askAnswer r) → opened < 4294967296
+  pub opened-fits : {x y : ℕ} {place : Place} {r : Asking} → r ≡ asking.Answered place → AskMeets words x y (askAnswer r) → place .opened < 4294967296
   opened-fits {x} {y} is meets = ask-fits x y _ (rw is at meets)
 
   module _ {before after : List ℕ} where

@@ -2,6 +2,7 @@
 use Prim.Native.Nat.{ℕ}
 use Rattle.promises.specs.Answer.{none, Answer}
 use Rattle.pkreg.specs.declared.PkAnswer.{PkAnswer}
+use Rattle.pkreg.specs.declared.PkPlace.{PkPlace}
 use Rattle.pkreg.specs.declared.PkNearest.{PkNearest}
 use mathlib.Core.Path.{_≡_}
 use Rattle.measures.specs.Sizes.{ValidSizes, storeWords}
@@ -11,6 +12,16 @@ use Rattle.promises.specs.Calls.{asked}
 abbrev pub numbers : PkAnswer → Answer
 numbers r = record { refusal = r .refusal; first = r .first; second = r .second; further = none }
 
+-- 02, P8: those of ask
+abbrev pub placeNumbers : PkPlace → Answer
+placeNumbers r =
+    record {
+      refusal = r .refusal;
+      first = r .marked;
+      second = r .opened;
+      further = record { code = r .code; level = r .level; distance = 0; limit = 0; complete = 0 };
+    }
+
 -- 02, P5: those of nearest
 abbrev pub nearestNumbers : PkNearest → Answer
 nearestNumbers r =
@@ -18,7 +29,7 @@ nearestNumbers r =
       refusal = r .refusal;
       first = r .found;
       second = r .opened;
-      further = record { code = r .code; distance = r .distance; limit = r .limit; complete = r .complete };
+      further = record { code = r .code; level = 0; distance = r .distance; limit = r .limit; complete = r .complete };
     }
 
 -- the formula for k and N within their limits, whatever the order m; 0 where make refuses them with every m

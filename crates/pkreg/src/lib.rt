@@ -5,7 +5,7 @@ ghost use Rattle.promises.specs.Answer.{yesNo};
 ghost use Rattle.answers.specs.Answer.{numberOf};
 ghost use Rattle.promises.specs.Answer as answers;
 ghost use Rattle.promises.specs.Calls.{MakeMeets, MarkMeets, ClearMeets, LoadMeets, FillMeets, AskMeets, NearestMeets, CountMeets, ListMeets, SaveMeets, CheckMeets};
-ghost use Rattle.pkreg.specs.Numbers.{numbers, nearestNumbers, WordsNeeded};
+ghost use Rattle.pkreg.specs.Numbers.{numbers, placeNumbers, nearestNumbers, WordsNeeded};
 use answers::Asking;
 use answers::Checking;
 use answers::Counting;
@@ -111,14 +111,36 @@ pub extern "C" fn pk_fill(store: &mut [u32], codes: &[u32]) -> u32
     refusal_of(register::fill(store, codes))
 }
 
-// first is 1 for a marked pixel, second the blocks opened.
+// 02, P8: the values of ask, all zero beside a refusal.
+#[repr(C)]
+pub struct PkPlace {
+    pub refusal: u32,
+    pub marked: u32,
+    pub opened: u32,
+    pub level: u32,
+    pub code: u32,
+}
+
+// marked is 1 for yes and 0 for no; level and code are those of the smallest block that contains the pixel.
 #[no_mangle]
-pub extern "C" fn pk_ask(store: &[u32], x: u32, y: u32) -> PkAnswer
-    ensures { λ r. ⌜ AskMeets (now (store .entry)) x y (numbers r) ⌝ }
+pub extern "C" fn pk_ask(store: &[u32], x: u32, y: u32) -> PkPlace
+    ensures { λ r. ⌜ AskMeets (now (store .entry)) x y (placeNumbers r) ⌝ }
 {
     match register::ask(store, x, y) {
-        Asking::Answered { marked, opened } => accepted(yes_no(marked), opened as u32),
-        Asking::Refused(refusal) => refused(refusal),
+        Asking::Answered(place) => PkPlace {
+            refusal: 0,
+            marked: yes_no(place.marked),
+            opened: place.opened as u32,
+            level: place.level,
+            code: place.code,
+        },
+        Asking::Refused(refusal) => PkPlace {
+            refusal: number_of(refusal),
+            marked: 0,
+            opened: 0,
+            level: 0,
+            code: 0,
+        },
     }
 }
 

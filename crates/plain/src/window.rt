@@ -87,6 +87,25 @@ pub fn blocks_met(panel: Panel, set: &Set, window: Window, over_edge: bool) -> u
     entries(panel, set, window, sought)
 }
 
+// 02, P8: whether a block is the smallest around a pixel, given as its window: it contains the pixel, it is instantiated, and no instantiated block of a
+// lower level contains the pixel.
+pub fn is_smallest(panel: Panel, set: &Set, pixel: Window, level: u32, code: u32) -> bool {
+    if level < 1 {
+        return false;
+    }
+    if (panel.m < level) | (codes::size_of(panel.m) <= code) {
+        return false;
+    }
+    let below = Sought {
+        low: 1,
+        high: level - 1,
+        over_edge: false,
+    };
+    shares(pixel, level, code)
+        & blocks::is_entry(panel, set, blocks::place_of(level, code) as u16)
+        & (entries(panel, set, pixel, below) == 0)
+}
+
 // What a list of all 256 codes may write to; every word is 7 before.
 pub type Words = [u32; 256];
 

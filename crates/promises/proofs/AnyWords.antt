@@ -8,9 +8,9 @@ use lib.ListN.{length, getD, drop}
 use Rattle.measures.specs.declared.sizes.Sizes.{Sizes}
 use Rattle.measures.specs.Sizes.{sizesOf, storeWords}
 use Rattle.image.specs.Held.{mostBytes}
-use Rattle.promises.specs.Answer.{none, Answer, refused, accepted}
+use Rattle.promises.specs.Answer.{Further, none, Answer, refused, accepted}
 use Rattle.promises.specs.Effect.{Effect, effect, Returns, passed, stopped}
-use Rattle.promises.specs.Walk.{Accepts, Searches}
+use Rattle.promises.specs.Walk.{Accepts, Locates, Searches}
 use Rattle.promises.specs.Change.{Done, Disabled}
 use Rattle.promises.specs.Output.{SameLength, WrittenOrShort}
 use Rattle.promises.specs.Calls.{asked, slotsIn, MakeMeets, MarkMeets, ClearMeets, LoadMeets, FillMeets, AskMeets, NearestMeets, CountMeets, ListMeets, SaveMeets}
@@ -86,7 +86,7 @@ module _ {before after : List ℕ} {a : Answer} where
   fill-leaves codes (passed u (passed on (passed room (stopped f r)))) = returned-leaves (omega arith) r
   fill-leaves codes (passed u (passed on (passed room (passed up b)))) = done-leaves (b .done)
 
--- what ask and count answer: two values of at most so much, zeros beside a refusal
+-- what count answers: two values of at most so much, zeros beside a refusal
 pub record Bounded (first second : ℕ) (a : Answer) : Type 0 where
   pub zeros : (a .refusal ≡ 0 → ⊥) → Zeros a
   pub first-to : a .first ≤ first
@@ -103,8 +103,28 @@ module _ {first second : ℕ} {a : Answer} where
   walk-bounded : {before after : List ℕ} → Accepts first second (effect a before after) ⊎ ((a ≡ refused 13) × (after ≡ before)) → Bounded first second a
   walk-bounded ends = ⊎-elim (λ b. record { zeros = λ z. absurd (z (b .accepted)); first-to = b .first-to; second-to = b .second-to; no-further = b .no-further }) (λ d. refused-bounded (d .0)) ends
 
-pub ask-bounded : {words : List ℕ} {x y : ℕ} {a : Answer} → AskMeets words x y a → Bounded 1 (sizesOf words .order) a
-ask-bounded m = ⊎-elim (λ c. refused-bounded (c .returns .is)) (λ w. walk-bounded (w .ends)) (pixel-ends m)
+-- 02, P8: what ask answers: no more blocks opened than the order, and no level above it; zeros beside a refusal
+pub record PlaceBounded (order : ℕ) (a : Answer) : Type 0 where
+  pub zeros : (a .refusal ≡ 0 → ⊥) → Zeros a
+  pub marked-to : a .first ≤ 1
+  pub opened-to : a .second ≤ order
+  pub level-to : a .further .level ≤ order
+
+module _ {order : ℕ} {a : Answer} where
+  refused-place : {n : ℕ} → a ≡ refused n → PlaceBounded order a
+  refused-place {n} i = record {
+    zeros = λ z. zeros-beside n i;
+    marked-to = omega (arith, first-of i);
+    opened-to = omega (arith, second-of i);
+    level-to = omega (arith, ap (λ (f : Further). f .level) (further-of i));
+  }
+
+  walk-place : {before after : List ℕ} → Locates order (effect a before after) ⊎ ((a ≡ refused 13) × (after ≡ before)) → PlaceBounded order a
+  walk-place ends =
+      ⊎-elim (λ l. record { zeros = λ z. absurd (z (l .accepted)); marked-to = l .marked-to; opened-to = l .opened-to; level-to = l .level-to }) (λ d. refused-place (d .0)) ends
+
+pub ask-bounded : {words : List ℕ} {x y : ℕ} {a : Answer} → AskMeets words x y a → PlaceBounded (sizesOf words .order) a
+ask-bounded m = ⊎-elim (λ c. refused-place (c .returns .is)) (λ w. walk-place (w .ends)) (pixel-ends m)
 
 -- 02, P5: what nearest answers: never more blocks opened than the budget, nor than S; zeros beside a refusal
 pub record SearchBounded (opened : ℕ) (a : Answer) : Type 0 where

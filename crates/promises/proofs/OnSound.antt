@@ -1,21 +1,24 @@
 -- What each call answers and leaves by equation, on a store that holds this set; and 13 on a spoiled one.
 use Prim.Native.Nat.{ℕ, _≤_, _<_}
 use native.Mathlib.Omega.{arith}
-use mathlib.Core.Path.{_≡_, ap, ap₂, sym, _∙_}
-use mathlib.Core.Bool.{true, false}
+use mathlib.Core.Path.{_≡_, refl, ap, ap₂, sym, _∙_}
+use mathlib.Core.Bool.{Bool, true, false}
+use mathlib.Core.Logic.{_↔_}
 use mathlib.Core.List.{List, _++_}
 use lib.ListN.{length, drop}
 use Rattle.morton.specs.Code.{codeOf}
 use Rattle.pktree.specs.PixelSet.{member, added, removed}
 use Rattle.pktree.specs.Tree.{tree}
+use Rattle.pktree.specs.SmallestBlock.{Smallest, IsElement}
 use Rattle.pktree.specs.Window.{Window, Ordered, found, openedByPixel}
 use Rattle.pktree.specs.Image.{image}
 use Rattle.pktree.proofs.Absurd.{zero-is-not-one}
+use Rattle.pktree.proofs.SmallestBlocks.{one-smallest, marked-as-element}
 use Rattle.pktree.proofs.Parts.{part-begins, none-found, none-opened, none-crossed}
 use Rattle.measures.specs.Sizes.{panelOf, sizesOf, UsableStore}
 use Rattle.store.specs.Sound.{Holds}
 use Rattle.promises.specs.Effect.{HasPixelOn, effect, Returns, partIn, passed, stopped}
-use Rattle.promises.specs.Answer.{Answer, accepted, refused, yesNo}
+use Rattle.promises.specs.Answer.{Answer, accepted, refused, located, yesNo}
 use Rattle.promises.specs.Walk.{Spoiled}
 use Rattle.promises.specs.Output.{WritesOrShort}
 use Rattle.promises.specs.Calls.{MarkMeets, ClearMeets, AskMeets, NearestMeets, windowGiven, foundAndOpened, foundAndCrossed, Counts, CountMeets, Lists, ListMeets, SaveMeets}
@@ -49,10 +52,30 @@ module _ (words : List ℕ) {part : Window} (set : List ℕ) (none : Ordered par
   none-counted : accepted 0 0 ≡ foundAndCrossed words part set
   none-counted = sym (ap₂ accepted (ap length (none-found none set)) (none-crossed none (tree (panelOf (sizesOf words)) (member set))))
 
+yes-exactly : (b : Bool) → (yesNo b ≡ 1) ↔ (b ≡ true)
+yes-exactly true = ((λ e. refl), (λ e. refl))
+yes-exactly false = ((λ e. absurd (omega (arith, e))), (λ e. zero-is-not-one (cc)))
+
 module _ {words set : List ℕ} (holds : Holds words set) {a : Answer} where
-  pub ask-answers : {x y : ℕ} → AskMeets words x y a → HasPixelOn words x y
-      → a ≡ accepted (yesNo (member set (codeOf x y))) (openedByPixel (codeOf x y) (tree (panelOf (sizesOf words)) (member set)))
-  ask-answers m on = where-holds (where-holds m (holds .sound .usable)) on .sound set holds .is
+  -- 02, P8: whichever block is the smallest around the pixel is the one answered
+  pub ask-answers : {x y level block : ℕ} → AskMeets words x y a → HasPixelOn words x y → Smallest (panelOf (sizesOf words)) (member set) (codeOf x y) level block
+      → a ≡ located (member set (codeOf x y)) (openedByPixel (codeOf x y) (tree (panelOf (sizesOf words)) (member set))) level block
+  ask-answers {x} {y} m on s =
+      let r = where-holds (where-holds m (holds .sound .usable)) on .sound set holds in
+      let same = one-smallest (panelOf (sizesOf words)) (member set) (codeOf x y) (r .smallest) s in
+      r .returns .is ∙ ap₂ (located (member set (codeOf x y)) (openedByPixel (codeOf x y) (tree (panelOf (sizesOf words)) (member set)))) (sym (same .0)) (sym (same .1))
+
+  pub ask-accepted : {x y : ℕ} → AskMeets words x y a → HasPixelOn words x y → a .refusal ≡ 0
+  ask-accepted m on = refusal-of (where-holds (where-holds m (holds .sound .usable)) on .sound set holds .returns .is)
+
+  -- the law, of what ask answers: marked exactly when it is an element of the block answered
+  pub ask-element : {x y : ℕ} → AskMeets words x y a → HasPixelOn words x y
+      → (a .first ≡ 1) ↔ IsElement (panelOf (sizesOf words)) (member set) (codeOf x y) (a .further .level) (a .further .code)
+  ask-element {x} {y} m on =
+      let r = where-holds (where-holds m (holds .sound .usable)) on .sound set holds in
+      let e = r .returns .is in
+      let law = marked-as-element (panelOf (sizesOf words)) (member set) (codeOf x y) (holds .sound .usable .valid .panel .k-from) (r .smallest) in
+      rw (e, ← law) (yes-exactly (member set (codeOf x y)))
 
   -- 02, P3: those of the part on the panel, also where it is empty
   module _ {x0 y0 x1 y1 : ℕ} (ordered : Ordered (windowGiven x0 y0 x1 y1)) where

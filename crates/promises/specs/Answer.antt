@@ -3,15 +3,16 @@ use Prim.Native.Nat.{ℕ}
 use mathlib.Core.Bool.{Bool, true, false}
 use Rattle.searching.specs.Nearest.{Nearest}
 
--- 02, P5: what nearest answers beside whether a pixel was found and how many blocks were opened
+-- what two calls answer beside their first two values: 02, P5: nearest the pixel's code and the three after it; 02, P8: ask a block's code and level
 pub record Further : Type 0 where
   pub code : ℕ
+  pub level : ℕ
   pub distance : ℕ
   pub limit : ℕ
   pub complete : ℕ
 
 abbrev pub none : Further
-none = record { code = 0; distance = 0; limit = 0; complete = 0 }
+none = record { code = 0; level = 0; distance = 0; limit = 0; complete = 0 }
 
 -- every other call has two values at most
 pub record Answer : Type 0 where
@@ -41,5 +42,15 @@ searched n =
       refusal = 0;
       first = yesNo (n .isFound);
       second = n .opened;
-      further = record { code = n .code; distance = n .distance; limit = n .limit; complete = yesNo (n .complete) };
+      further = record { code = n .code; level = 0; distance = n .distance; limit = n .limit; complete = yesNo (n .complete) };
+    }
+
+-- 02, P8: marked or not, the number of blocks opened, and the level and code of a block
+abbrev pub located : Bool → ℕ → ℕ → ℕ → Answer
+located marked opened level block =
+    record {
+      refusal = 0;
+      first = yesNo marked;
+      second = opened;
+      further = record { code = block; level = level; distance = 0; limit = 0; complete = 0 };
     }

@@ -10,6 +10,7 @@ use Rattle.pktree.specs.Lists.{Every}
 use Rattle.pktree.specs.Panel.{OnPanel}
 use Rattle.pktree.specs.PixelSet.{member, Ascending, added, removed}
 use Rattle.pktree.specs.Tree.{tree}
+use Rattle.pktree.specs.SmallestBlock.{Smallest}
 use Rattle.pktree.specs.Window.{openedByPixel, Window, found, openedByWindow, crossedByWindow}
 use Rattle.pktree.specs.Image.{image}
 use Rattle.searching.specs.NearestPromises.{nearestOn}
@@ -17,9 +18,9 @@ use Rattle.measures.specs.declared.sizes.Sizes.{Sizes}
 use Rattle.measures.specs.Sizes.{ValidSizes, storeWords, sizesOf, UsableStore, panelOf, slotCount}
 use Rattle.image.specs.Judged.{WellFormed, FitsRegister, ImageOfSome}
 use Rattle.image.specs.Held.{HasImage, panelIn, mostIn, mostBytes}
-use Rattle.promises.specs.Answer.{Answer, refused, accepted, yesNo, searched}
+use Rattle.promises.specs.Answer.{Answer, refused, accepted, located, searched}
 use Rattle.promises.specs.Effect.{effect, _else_then_, Effect, Returns, Unchanged, OfPixel, partIn, OfWindow, OfPart}
-use Rattle.promises.specs.Walk.{Walks, Accepts, Searches}
+use Rattle.promises.specs.Walk.{Walks, Accepts, Locates, Searches}
 use Rattle.promises.specs.Change.{Becomes, Done, Disabled}
 use Rattle.promises.specs.Output.{SameLength, WrittenOrShort, WritesOrShort}
 use Rattle.store.specs.Sound.{IsSound}
@@ -82,11 +83,16 @@ FillMeets before after codes given = (UsableStore before else refused 3 then Fil
 
 -- ask, nearest, count and check are lent the store for reading only, so no word of it changes
 
--- ask (store, x, y): never more blocks opened than the order m; on a sound store marked or not, and the instantiated blocks that contain the pixel
+-- ask (store, x, y): never more blocks opened than the order m, nor a level above it; on a sound store marked or not, the number of instantiated
+-- blocks that contain the pixel, and 02, P8: the level and code of the smallest of them
+pub record Answered (words : List ℕ) (code : ℕ) (set : List ℕ) (e : Effect) : Type 0 where
+  pub level : ℕ
+  pub block : ℕ
+  pub smallest : Smallest (panelOf (sizesOf words)) (member set) code level block
+  pub returns : Returns (located (member set code) (openedByPixel code (tree (panelOf (sizesOf words)) (member set))) level block) e
+
 abbrev pub Asks : List ℕ → ℕ → Effect → Type 0
-Asks words code =
-    Walks words (Accepts 1 (sizesOf words .order)) Unchanged
-    (λ set. Returns (accepted (yesNo (member set code)) (openedByPixel code (tree (panelOf (sizesOf words)) (member set)))))
+Asks words code = Walks words (Locates (sizesOf words .order)) Unchanged (Answered words code)
 
 abbrev pub AskMeets : List ℕ → ℕ → ℕ → Answer → Type 0
 AskMeets words x y given = OfPixel words x y (Asks words (codeOf x y)) (effect given words words)

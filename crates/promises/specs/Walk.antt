@@ -20,6 +20,13 @@ pub record Accepts (first second : ℕ) (e : Effect) : Type 0 where
   pub second-to : e .answer .second ≤ second
   pub no-further : e .answer .further ≡ none
 
+-- 02, P8: accepted, with a block of the panel's levels and at most so many opened as there are levels above the pixels
+pub record Locates (order : ℕ) (e : Effect) : Type 0 where
+  pub accepted : e .answer .refusal ≡ 0
+  pub marked-to : e .answer .first ≤ 1
+  pub opened-to : e .answer .second ≤ order
+  pub level-to : e .answer .further .level ≤ order
+
 -- 02, P5: a search ended, with at most so many blocks opened
 pub record Searches (opened : ℕ) (e : Effect) : Type 0 where
   pub ended : e .answer .refusal ≡ 0

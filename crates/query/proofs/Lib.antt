@@ -6,4 +6,3 @@ pub mod Counts
 pub mod WholeTree
 pub mod RootCount
 pub mod WholeCount
-pub mod Asks

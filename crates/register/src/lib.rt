@@ -62,13 +62,13 @@ pub fn clear(store: &mut [u32], x: u32, y: u32) -> Outcome
     }
 }
 
-// 01: marked or not, and the number of blocks opened.
+// 01: marked or not, and the number of blocks opened; 02, P8: and the smallest block that contains the pixel, by level and code.
 pub fn ask(store: &[u32], x: u32, y: u32) -> Asking
     ensures { λ r. ⌜ AskMeets (now (store .entry)) x y (askAnswer r) ⌝ }
 {
     match judge_pixel(store, x, y) {
         PixelJudged::Refused(refusal) => Asking::Refused(refusal),
-        PixelJudged::Pixel { sizes, code } => query::ask::ask(store, sizes, code),
+        PixelJudged::Pixel { sizes, code } => asking::ask(store, sizes, code),
     }
 }
 

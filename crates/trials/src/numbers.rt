@@ -13,7 +13,7 @@ use plain::search::refused;
 
 pub fn of_asking(asking: Asking) -> Answer {
     match asking {
-        Asking::Answered { marked, opened } => answered(0, marked as usize, opened),
+        Asking::Answered(place) => answered(0, place.marked as usize, place.opened),
         Asking::Refused(refusal) => answered(number_of(refusal), 0, 0),
     }
 }

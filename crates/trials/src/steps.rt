@@ -1,6 +1,7 @@
 // One call, drawn, on the register and on the plain set.
 use crate::draws;
 use crate::numbers;
+use answers::Asking;
 use answers::refusal_of;
 use plain::blocks::Panel;
 use plain::blocks::Set;
@@ -11,9 +12,11 @@ use plain::images;
 use plain::images::Bytes;
 use plain::search::Search;
 use plain::window::Window;
+use plain::window::around;
 use plain::window::is_list;
+use plain::window::is_smallest;
 
-// Both answers to a call, and whether what was written is right too, or a search's other values are.
+// Both answers to a call, and whether what was written is right too, or the other values of a search or of an ask are.
 pub struct Step {
     pub got: Answer,
     pub want: Answer,
@@ -141,12 +144,20 @@ fn clear(panel: Panel, window: Window, store: &mut [u32], set: &mut Set) -> Step
 }
 
 fn ask(panel: Panel, window: Window, store: &[u32], set: &Set) -> Step {
-    let got = numbers::of_asking(register::ask(store, window.x0, window.y0));
+    let asking = register::ask(store, window.x0, window.y0);
     both(
-        got,
+        numbers::of_asking(asking),
         calls::ask(panel, store.len(), window.x0, window.y0, set),
-        true,
+        tells_smallest(asking, panel, set, around(window.x0, window.y0)),
     )
+}
+
+// 02, P8: whether the block told is the smallest that contains the pixel; beside a refusal none is told.
+fn tells_smallest(asking: Asking, panel: Panel, set: &Set, pixel: Window) -> bool {
+    match asking {
+        Asking::Answered(place) => is_smallest(panel, set, pixel, place.level, place.code),
+        Asking::Refused(refusal) => true,
+    }
 }
 
 fn count(panel: Panel, window: Window, store: &[u32], set: &Set) -> Step {

@@ -29,7 +29,7 @@ use Rattle.measures.proofs.SlotWrites.{take-less, word-in-front}
 use Rattle.measures.proofs.Usable.{sizes-kept, usable-kept, layout-fits}
 use Rattle.descent.specs.declared.Located.{Located}
 use Rattle.descent.specs.Located.{LocatedIn, LocateMeets}
-use Rattle.descent.proofs.OpenedByPixel.{marked-exactly}
+use Rattle.descent.proofs.SmallestLocated.{marked-exactly}
 use Rattle.ascent.proofs.Completed.{Completed}
 use Rattle.step.specs.declared.Change.{Change}
 use Rattle.step.proofs.RegroupEnds.{kept-same}
@@ -118,7 +118,7 @@ module _ {before slots places : List ℕ} {sizes : Sizes} {layout : Layout} {cod
   found : (was : List ℕ) (h : Holds before was) → (located .damaged ≡ false) × LocatedIn before (h .placed) code slots places located
   found was h = u .meets .sound (h .placed) (h .sound) layout-is order-is (u .can .given .1)
 
-  -- the pixel is in the set where it was found marked
+  -- 02, P8: the pixel is in the set where it was found to be an element of the smallest block, by the law of that block
   as-located : {marked : Bool} → located .marked ≡ marked → (was : List ℕ) → Holds before was → member was code ≡ marked
   as-located e was h = ap (λ (l : List ℕ). member l code) (sym (h .set-is)) ∙ marked-exactly (h .sound) (found was h .1) ∙ e
 

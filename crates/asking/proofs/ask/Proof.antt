@@ -1,10 +1,10 @@
--- `query::ask::ask` meets its contract: what `locate` ensures is the answer.
+-- `asking::ask` meets its contract: what `locate` ensures is the answer.
 use native.Mathlib.Omega.{arith}
 use mathlib.Core.Path.{refl}
 use Rattle.measures.proofs.Usable.{sizes-valid, layout-fits}
-use Rattle.query.proofs.Asks.{asked-known, asked-damaged}
-use Rattle.query.proofs.ask.ask.Statement.{statement}
-use Rattle.query.proofs.ask.ask.Tie as tie
+use Rattle.asking.proofs.Asks.{asked-known, asked-damaged}
+use Rattle.asking.proofs.ask.Statement.{statement}
+use Rattle.asking.proofs.ask.Tie as tie
 
 layout-of-requires : tie.Need-layout-of-requires
 layout-of-requires c κs = let p = c .before .pre .0 in sizes-valid (p .0) (p .1)

@@ -4,6 +4,14 @@ use Rattle.pkreg.proofs.Fits.{opened-fits}
 use Rattle.pkreg.proofs.pk_ask.Statement.{statement}
 use Rattle.pkreg.proofs.pk_ask.Tie as tie
 
+returns : tie.Need-returns
+returns c =
+    let arm = c .before .before .before in
+    rw (arm .place .given .1, ← c .before .yes-no .ensures) at (arm .before .before .ask .ensures)
+
+returns-2 : tie.Need-returns-2
+returns-2 c = let arm = c .before .before in rw (arm .refusal .given .1, ← c .number-of .ensures) at (arm .before .before .ask .ensures)
+
 pub pk-ask-spec : {M : Type 1} → statement M
 pk-ask-spec =
     tie.close
@@ -12,9 +20,7 @@ pk-ask-spec =
     (λ c. search needs)
     (λ c κs. search needs)
     (λ c. search (needs, opened-fits))
-    (λ c κs. search needs)
     (λ c. search needs)
     (λ c κs. search needs)
-    (λ c.
-    let arm = c .before .before .before in rw (arm .marked .given .1, ← c .before .yes-no .ensures, ← c .accepted .ensures) at (arm .before .before .ask .ensures))
-    (λ c. let arm = c .before .before in rw (arm .refusal .given .1, ← c .refused .ensures) at (arm .before .before .ask .ensures)))
+    returns
+    returns-2)
