@@ -93,11 +93,14 @@ static void show_window(const uint32_t *store, size_t words, uint32_t x0, uint32
         printf("  pixel %u %u, code %u\n", coordinate(codes[i]), coordinate(codes[i] >> 1), (unsigned)codes[i]);
 }
 
+/* Whether it is marked, and the square of the smallest block of the tree that contains it. */
 static void show_pixel(const uint32_t *store, size_t words, uint32_t x, uint32_t y)
 {
-    pk_answer asked = pk_ask(store, words, x, y);
+    pk_place asked = pk_ask(store, words, x, y);
+    unsigned low_x = coordinate(asked.code), low_y = coordinate(asked.code >> 1), side = 1u << asked.level;
     must("ask", asked.refusal);
-    printf("pixel %u %u: marked %u, %u blocks opened\n", (unsigned)x, (unsigned)y, (unsigned)asked.first, (unsigned)asked.second);
+    printf("pixel %u %u: marked %u, %u blocks opened\n", (unsigned)x, (unsigned)y, (unsigned)asked.marked, (unsigned)asked.opened);
+    printf("  smallest block: x %u to %u, y %u to %u\n", low_x, low_x + side - 1, low_y, low_y + side - 1);
 }
 
 static void save_to(const char *path, const uint32_t *store, size_t words)
@@ -172,6 +175,7 @@ int main(int count, char **arguments)
     must("make", pk_make(first_store, words, ORDER, K, MOST));
     mark_row_by_row(first_store, words);
     show_pixel(first_store, words, 5, 3);
+    show_pixel(first_store, words, 6, 7);
     show_window(first_store, words, 4, 2, 7, 7);
     save_to(arguments[1], first_store, words);
 

@@ -42,9 +42,15 @@ def backwards():
     return register
 
 
-def show(register, x0, y0, x1, y1):
-    asked = register.ask(5, 3)
-    print(f"pixel 5 3: marked {int(asked.marked)}, {asked.opened} blocks opened")
+def show_pixel(register, x, y):
+    """Whether it is marked, and the square of the smallest block of the tree that contains it."""
+    asked = register.ask(x, y)
+    x0, y0, x1, y1 = asked.square
+    print(f"pixel {x} {y}: marked {int(asked.marked)}, {asked.opened} blocks opened")
+    print(f"  smallest block: x {x0} to {x1}, y {y0} to {y1}")
+
+
+def show_window(register, x0, y0, x1, y1):
     listed = register.list(x0, y0, x1, y1)
     print(f"window {x0} {y0} to {x1} {y1}: {len(listed.codes)} found, {listed.opened} blocks opened")
     for code in listed.codes:
@@ -66,7 +72,9 @@ def read_from(path):
 
 def main(first, second):
     register = row_by_row()
-    show(register, 4, 2, 7, 7)
+    show_pixel(register, 5, 3)
+    show_pixel(register, 6, 7)
+    show_window(register, 4, 2, 7, 7)
     save_to(first, register)
     save_to(second, backwards())
     loaded = Register.from_image(read_from(first))

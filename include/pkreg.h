@@ -29,9 +29,9 @@
 
 /* The version; the Makefile takes it from here. A new MAJOR gives the shared library a new name, so no program meets one that it was not
    linked for. */
-#define PK_VERSION "1.6.0"
-#define PK_VERSION_MAJOR 1
-#define PK_VERSION_MINOR 6
+#define PK_VERSION "2.0.0"
+#define PK_VERSION_MAJOR 2
+#define PK_VERSION_MINOR 0
 #define PK_VERSION_PATCH 0
 
 #include <stddef.h>
@@ -92,6 +92,11 @@ typedef struct {
     uint32_t refusal, first, second;
 } pk_answer;
 
+/* The refusal, and what pk_ask returns: whether a pixel is marked, the blocks opened, and the level and code of the block in which it lies. */
+typedef struct {
+    uint32_t refusal, marked, opened, level, code;
+} pk_place;
+
 /* The refusal, and what pk_nearest returns. distance and limit are squared distances, of up to 33 bits. */
 typedef struct {
     uint64_t distance, limit;
@@ -120,8 +125,12 @@ uint32_t pk_load(uint32_t *store, size_t words, const uint8_t *image, size_t byt
    only words 0 to 3 of the store are relied on, so this also mends a damaged store with these words right. Refusals 3, 4, 6, 14. */
 uint32_t pk_fill(uint32_t *store, size_t words, const uint32_t *codes, size_t count);
 
-/* first: 1 for a marked pixel, else 0. second: the blocks opened, which are those of the tree that contain the pixel. Refusals 3, 4, 13. */
-pk_answer pk_ask(const uint32_t *store, size_t words, uint32_t x, uint32_t y);
+/* marked: 1 for a marked pixel, else 0. opened: the blocks opened, which are those of the tree that contain the pixel. level, code: the
+   smallest of these, whether or not the pixel is marked; where there is no smaller one it is the root, of level m and code 0. That block is
+   the square of x from X to X + 2^level - 1 and y from Y to Y + 2^level - 1, where (X, Y) is the pixel with the code `code`: bit i of X is
+   bit 2i of code, bit i of Y is bit 2i + 1. The pixel is marked exactly when it is an element of that block. Where the store is damaged and
+   the call is not refused, marked is still at most 1, and opened and level are at most m. Refusals 3, 4, 13. */
+pk_place pk_ask(const uint32_t *store, size_t words, uint32_t x, uint32_t y);
 
 /* The marked pixel nearest to (x, y), sought until it is certain or `budget` blocks are opened. Blocks are opened from the root down, of
    those met always the one whose nearest position is nearest, at a tie the one of the lowest code.

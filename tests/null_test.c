@@ -19,6 +19,17 @@ static void expect(const char *what, pk_answer got, uint32_t refusal, uint32_t f
     checks++;
 }
 
+static void expect_place(const char *what, pk_place got, uint32_t refusal, uint32_t marked, uint32_t opened, uint32_t level, uint32_t code)
+{
+    if (got.refusal != refusal || got.marked != marked || got.opened != opened || got.level != level || got.code != code) {
+        fprintf(stderr, "null: %s gives %u %u %u %u %u and not %u %u %u %u %u\n", what, (unsigned)got.refusal, (unsigned)got.marked,
+                (unsigned)got.opened, (unsigned)got.level, (unsigned)got.code, (unsigned)refusal, (unsigned)marked, (unsigned)opened,
+                (unsigned)level, (unsigned)code);
+        exit(1);
+    }
+    checks++;
+}
+
 /* The calls that answer with the refusal alone. */
 static void expect_refusal(const char *what, uint32_t got, uint32_t refusal)
 {
@@ -35,7 +46,7 @@ static void no_store(void)
     expect_refusal("clear", pk_clear(NULL, 0, 0, 0), PK_NO_REGISTER);
     expect_refusal("load", pk_load(NULL, 0, NULL, 0), PK_NO_REGISTER);
     expect_refusal("fill", pk_fill(NULL, 0, NULL, 0), PK_NO_REGISTER);
-    expect("ask", pk_ask(NULL, 0, 0, 0), PK_NO_REGISTER, 0, 0);
+    expect_place("ask", pk_ask(NULL, 0, 0, 0), PK_NO_REGISTER, 0, 0, 0, 0);
     expect_refusal("nearest", pk_nearest(NULL, 0, 0, 0, 1).refusal, PK_NO_REGISTER);
     expect("count", pk_count(NULL, 0, 0, 0, 0, 0), PK_NO_REGISTER, 0, 0);
     expect("list", pk_list(NULL, 0, 0, 0, 0, 0, NULL, 0), PK_NO_REGISTER, 0, 0);
@@ -60,12 +71,16 @@ static void no_image_and_no_output(uint32_t *store)
     expect("save to no bytes", pk_save(store, WORDS, NULL, 0), PK_OUTPUT_TOO_SHORT, 40, 0);
     expect_refusal("load of no bytes", pk_load(store, WORDS, NULL, 0), PK_NOT_AN_IMAGE);
     expect("check afterwards", pk_check(store, WORDS), PK_ACCEPTED, 1, 0);
+    expect_place("ask 1 1 afterwards", pk_ask(store, WORDS, 1, 1), PK_ACCEPTED, 0, 2, 1, 0);
+    expect_place("ask 6 6 afterwards", pk_ask(store, WORDS, 6, 6), PK_ACCEPTED, 1, 1, 3, 0);
+    expect_place("ask off the panel", pk_ask(store, WORDS, 8, 0), PK_OFF_PANEL, 0, 0, 0, 0);
     if (memcmp(before, store, sizeof before) != 0) {
         fprintf(stderr, "null: the store was changed by calls that were refused or only look\n");
         exit(1);
     }
     expect_refusal("fill with no codes", pk_fill(store, WORDS, NULL, 0), PK_ACCEPTED);
     expect("count of the register that it emptied", pk_count(store, WORDS, 0, 0, 7, 7), PK_ACCEPTED, 0, 0);
+    expect_place("ask of the register that it emptied", pk_ask(store, WORDS, 1, 1), PK_ACCEPTED, 0, 1, 3, 0);
 }
 
 int main(void)

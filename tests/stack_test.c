@@ -144,6 +144,14 @@ static void prepare_stacks(void)
     expect(sigaltstack(&handler_stack, NULL) == 0 && sigaction(SIGSEGV, &action, NULL) == 0, "no handler");
 }
 
+/* Pixel (0, 0) lies in a block of each level from its smallest up. */
+static void expect_nested(void)
+{
+    pk_place corner = pk_ask(store, words, 0, 0);
+    expect(corner.refusal == PK_ACCEPTED && corner.marked == 1 && corner.code == 0, "the corner is not marked, or not in the blocks at code 0");
+    expect(corner.opened >= ORDER - 2 && corner.level == ORDER + 1 - corner.opened, "the blocks are not one in the other");
+}
+
 static size_t larger(size_t a, size_t b)
 {
     return a > b ? a : b;
@@ -158,7 +166,7 @@ int main(void)
         draw_nested_pixels();
         used = larger(used, stack_used(all_calls, small, SMALL));
         expect(pk_count(store, words, 0, 0, LAST, LAST).first == pixels, "the pixels are not held");
-        expect(pk_ask(store, words, 0, 0).second >= ORDER - 2, "the blocks are not one in the other");
+        expect_nested();
         searching = larger(searching, stack_used(search_middle, large, LARGE));
         expect(nearest.refusal == PK_ACCEPTED && nearest.complete, "the nearest pixel is not found");
     }
