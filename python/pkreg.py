@@ -3,7 +3,7 @@
     from pkreg import Register, Refusal
     register = Register.make(3, 3, 16)    # order m, k, and the most pixels that it may hold
     register.mark(5, 3)
-    register.ask(5, 3)                    # Asked(marked=True, opened=1)
+    register.ask(5, 3)                    # Asked(marked=True, opened=1, level=3, code=0)
     open("lab.img", "wb").write(register.save())
 
 A refused call raises Refusal, which carries the number, its meaning and, with 9, the length needed. Beside what is found stands the
@@ -16,7 +16,7 @@ import os
 from typing import NamedTuple, Optional
 
 # that of include/pkreg.h; the library is opened by the name that goes with its first number
-__version__ = "1.6.0"
+__version__ = "2.0.0"
 
 MEANINGS = {
     1: "m, k or most is beyond its limits: m is 1 to 16, k 2 to 16, most 1 to 24576",
@@ -58,6 +58,13 @@ class LibraryMissing(Exception):
 class Asked(NamedTuple):
     marked: bool
     opened: int
+    level: int
+    code: int
+
+    @property
+    def square(self):
+        """The square of the block that level and code name, as (x0, y0, x1, y1), both corners included: count and list take it as a window."""
+        return square_of(self.level, self.code)
 
 
 class Nearest(NamedTuple):
@@ -82,6 +89,10 @@ class _Answer(ctypes.Structure):
     _fields_ = [("refusal", ctypes.c_uint32), ("first", ctypes.c_uint32), ("second", ctypes.c_uint32)]
 
 
+class _Place(ctypes.Structure):
+    _fields_ = [(name, ctypes.c_uint32) for name in ("refusal", "marked", "opened", "level", "code")]
+
+
 class _NearestAnswer(ctypes.Structure):
     _fields_ = [(name, ctypes.c_uint64) for name in ("distance", "limit")] + [
         (name, ctypes.c_uint32) for name in ("refusal", "found", "code", "opened", "complete")
@@ -98,7 +109,7 @@ _SIGNATURES = {
     "pk_clear": (_NUMBER, _WORDS + [_NUMBER] * 2),
     "pk_load": (_NUMBER, _WORDS + _BYTES),
     "pk_fill": (_NUMBER, _WORDS + _WORDS),
-    "pk_ask": (_Answer, _WORDS + [_NUMBER] * 2),
+    "pk_ask": (_Place, _WORDS + [_NUMBER] * 2),
     "pk_nearest": (_NearestAnswer, _WORDS + [_NUMBER] * 3),
     "pk_count": (_Answer, _WORDS + [_NUMBER] * 4),
     "pk_list": (_Answer, _WORDS + [_NUMBER] * 4 + _WORDS),
@@ -162,6 +173,12 @@ def pixel_of(code):
     x = sum((code >> 2 * i & 1) << i for i in range(16))
     y = sum((code >> 2 * i + 1 & 1) << i for i in range(16))
     return x, y
+
+
+def square_of(level, code):
+    """The square of a block, as (x0, y0, x1, y1), both corners included; that of a pixel has level 0."""
+    x, y = pixel_of(code)
+    return x, y, x + 2**level - 1, y + 2**level - 1
 
 
 class Entry(NamedTuple):
@@ -258,9 +275,11 @@ class Register:
         self._done(_calls().pk_fill(*self._lent, lent, len(lent)))
 
     def ask(self, x, y):
-        """Whether the pixel is marked, and the blocks opened."""
-        answer = self._answer(_calls().pk_ask(*self._lent, _number(x), _number(y)))
-        return Asked(answer.first == 1, answer.second)
+        """Whether the pixel is marked, the blocks opened, and the level and code of the smallest block of the tree that contains the pixel,
+        marked or not: the whole panel where there is no smaller one. The pixel is marked exactly when it is an element of that block."""
+        answer = _calls().pk_ask(*self._lent, _number(x), _number(y))
+        self._done(answer.refusal)
+        return Asked(answer.marked == 1, answer.opened, answer.level, answer.code)
 
     def nearest(self, x, y, budget=UNBOUNDED):
         """The marked pixel nearest to this one, as far as a search that opens so many blocks at most can tell; of equally near pixels that of

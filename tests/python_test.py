@@ -48,13 +48,26 @@ def without_library():
     return subprocess.run([sys.executable, "-c", program], env=environment, capture_output=True, text=True).stdout
 
 
+def asked(register):
+    """What ask tells on the first panel, and in the last corner of the largest, where two pixels make a block of level 1."""
+    yield register.ask(1, 1), pkreg.Asked(marked=False, opened=2, level=1, code=0)
+    yield register.ask(Whole(6), 6), pkreg.Asked(marked=True, opened=1, level=3, code=0)
+    yield [register.ask(x, y).square for x, y in ((0, 1), (3, 3))], [(0, 0, 1, 1), (0, 0, 7, 7)]
+    wrong = ((8, 0), (0, 8), (-1, 0), (0, 1.5))
+    yield [raised(register.ask, *pixel) for pixel in wrong], [(4, 0, True), (4, 0, True), "ValueError", "TypeError"]
+    corner = Register.from_pixels(16, 2, [(65534, 65535), (65535, 65534)])
+    yield corner.ask(65535, 65534), pkreg.Asked(marked=True, opened=2, level=1, code=2**32 - 4)
+    yield corner.ask(65534, 65534), pkreg.Asked(marked=False, opened=2, level=1, code=2**32 - 4)
+    yield (corner.ask(65535, 65535).square, corner.ask(65533, 65535).square), ((65534, 65534, 65535, 65535), (0, 0, 65535, 65535))
+
+
 def cases():
     """What is told, and what is expected: the specification's first panel."""
     register = Register.make(3, 3, 9)
     for x, y in (6, 6), (0, 1), (1, 0), (Whole(0), Whole(0)):
         register.mark(x, y)
     yield (register.order, register.side, register.most), (3, 8, 9)
-    yield register.ask(1, 1), pkreg.Asked(marked=False, opened=2)
+    yield from asked(register)
     yield register.nearest(4, 0, 1), pkreg.Nearest(pixel=(6, 6), distance=40, opened=1, limit=9, complete=False)
     yield register.nearest(4, 0), pkreg.Nearest(pixel=(1, 0), distance=9, opened=2, limit=9, complete=True)
     yield register.count(4, 4, 7, 7), pkreg.Counted(found=1, opened=1)
@@ -67,7 +80,6 @@ def cases():
     yield (register.check(), pkreg.words(3, 9), pkreg.words(1, 9)), (True, 148, 0)
     yield raised(register.mark, 0, 0), (5, 0, True)
     yield raised(register.clear, 3, 3), (7, 0, True)
-    yield raised(register.ask, 8, 0), (4, 0, True)
     yield [raised(register.count, *window) for window in ((1, 0, 0, 0), (9, 0, 8, 0), (-1, 0, 3, 3))], [(8, 0, True), (8, 0, True), "ValueError"]
     yield [raised(register.nearest, *search) for search in ((8, 0, 0), (7, 0, 0), (0, 0, 2**32))], [(4, 0, True), (15, 0, True), "ValueError"]
     yield raised(register.load, b""), (10, 0, True)
@@ -77,6 +89,7 @@ def cases():
     yield [pkreg.words(3, most) for most in (24576, 24577, 65535)], [344072, 0, 0]
     yield [raised(register.mark, x, 0) for x in (-1, 2**32, 1.5, "1")], ["ValueError", "ValueError", "TypeError", "TypeError"]
     yield (pkreg.code_of(5, 3), pkreg.pixel_of(2**32 - 1)), (27, (65535, 65535))
+    yield [pkreg.square_of(*block) for block in ((0, 27), (2, 32), (16, 0))], [(5, 3, 5, 3), (0, 4, 3, 7), (0, 0, 65535, 65535)]
     filled = Register.make(3, 3, 4)
     filled.fill([0, 1, Whole(2), 60])
     yield (filled.save() == image, filled.check()), (True, True)
