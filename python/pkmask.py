@@ -1,4 +1,4 @@
-"""Images of registers of unfit pixels: show them, list a window, compare two, turn them into mask pictures and back."""
+"""Images of registers of unfit pixels: show them, ask for a pixel's cluster, list a window, compare two, turn them into mask pictures and back."""
 
 import argparse
 import itertools
@@ -6,13 +6,15 @@ import os
 import sys
 
 from pictures import PictureError, read_picture, write_picture
-from pkreg import LARGEST_MOST, LibraryMissing, Refusal, Register, __version__, code_of, entries_of, pixel_of, sizes_of
+from pkreg import LARGEST_MOST, LibraryMissing, Refusal, Register, __version__, code_of, entries_of, pixel_of, sizes_of, square_of
 
 # the image of the most pixels in the most blocks that a version before 1.6.0 could save: it is read whole, so that it is refused for its
 # many pixels and not as a file that was cut
 LONGEST_IMAGE = 10 + 5 * (2 * 65535)
 PICTURES = """A picture is PBM (name ending .pbm), where 1 is masked, or PGM (.pgm) of greatest value 255, where 255 is masked and 0 is not.
 Column x of row y is pixel (x, y); row 0 is the first row of the file."""
+CLUSTER = """The cluster of a pixel is the smallest block of the image's tree that contains it, masked or not: the whole panel where there is no
+smaller one."""
 TOO_MANY = f"more masked pixels than the {LARGEST_MOST} that a register holds"
 DIFFERENT, FAILED = 1, 2
 
@@ -39,17 +41,30 @@ def pixels_of(register):
     return [pixel_of(code) for code in register.list(0, 0, last, last).codes]
 
 
+def square_text(level, code):
+    x0, y0, x1, y1 = square_of(level, code)
+    return f"level {level} code {code}: x {x0} to {x1}, y {y0} to {y1}"
+
+
 def show(arguments):
     image, register = read_image(arguments.image)
     sizes = sizes_of(image)
     blocks = sizes.entries - sizes.pixels
     print(f"order {sizes.order}, side {register.side}, k {sizes.k}, blocks {blocks}, pixels {sizes.pixels}")
     for level, code in entries_of(image):
-        x, y = pixel_of(code)
         if level:
-            print(f"block level {level} code {code}: x {x} to {x + 2**level - 1}, y {y} to {y + 2**level - 1}")
+            print(f"block {square_text(level, code)}")
         else:
+            x, y = pixel_of(code)
             print(f"pixel code {code}: x {x}, y {y}")
+    return 0
+
+
+def ask(arguments):
+    _, register = read_image(arguments.image)
+    asked = register.ask(arguments.x, arguments.y)
+    print(f"{'masked' if asked.marked else 'not masked'}, opened {asked.opened}")
+    print(f"cluster {square_text(asked.level, asked.code)}")
     return 0
 
 
@@ -115,9 +130,11 @@ def parse(words):
         return added
 
     command("show", show, "show an image's sizes and its entries, in the image's order", "image")
+    pixel = command("ask", ask, "say whether a pixel is masked, and where its cluster lies", "image", epilog=CLUSTER)
     window = command("list", list_window, "list the masked pixels of a window, both corners included; it may reach past the panel", "image")
-    for name in ("x0", "y0", "x1", "y1"):
-        window.add_argument(name, type=coordinate)
+    for added, names in ((pixel, ("x", "y")), (window, ("x0", "y0", "x1", "y1"))):
+        for name in names:
+            added.add_argument(name, type=coordinate)
     command("compare", compare, "say whether two images mask alike, and which pixels differ", "image", "other")
     command("picture", to_picture, "write an image's mask as a picture", "image", "picture", epilog=PICTURES)
     back = command("image", to_image, "write the image of a mask picture", "picture", "image", epilog=PICTURES)

@@ -28,6 +28,7 @@ PACKED = b"P4\n8 8\n" + bytes((0xC0, 0x80, 0, 0, 0, 0, 0x02, 0))
 FILES = {
     "first.img": FIRST,
     "cleared.img": CLEARED,
+    "corner.img": entry_bytes(3, 3, 3, [(3, 0), (1, 60), (0, 60), (0, 61), (0, 63)]),
     "otherk.img": entry_bytes(3, 4, 4, [(3, 0), (0, 0), (0, 1), (0, 2), (0, 60)]),
     "small.img": entry_bytes(1, 2, 0, [(1, 0)]),
     "large.img": entry_bytes(16, 2, 1, [(16, 0), (0, 5)]),
@@ -58,6 +59,7 @@ pixel code 2: x 0, y 1
 pixel code 60: x 6, y 6
 """
 LIMITS = "refused 1: m, k or most is beyond its limits: m is 1 to 16, k 2 to 16, most 1 to 24576"
+OFF_PANEL = "refused 4: a pixel or a code is not on the panel"
 TOO_MANY = "more masked pixels than the 24576 that a register holds"
 CHANGED = "not a whole image: refused 12: no set of pixels has this image: its bytes were changed"
 CUT = "not a whole image: refused 10: not an image: under 10 bytes, or not as long as its number of entries asks"
@@ -66,6 +68,11 @@ CUT = "not a whole image: refused 10: not an image: under 10 bytes, or not as lo
 RUNS = [
     ("show first.img", 0, SHOWN),
     ("show small.img", 0, "order 1, side 2, k 2, blocks 1, pixels 0\nblock level 1 code 0: x 0 to 1, y 0 to 1\n"),
+    ("ask first.img 1 1", 0, "not masked, opened 2\ncluster level 1 code 0: x 0 to 1, y 0 to 1\n"),
+    ("ask first.img 0 1", 0, "masked, opened 2\ncluster level 1 code 0: x 0 to 1, y 0 to 1\n"),
+    ("ask first.img 6 6", 0, "masked, opened 1\ncluster level 3 code 0: x 0 to 7, y 0 to 7\n"),
+    ("ask first.img 7 7", 0, "not masked, opened 1\ncluster level 3 code 0: x 0 to 7, y 0 to 7\n"),
+    ("ask corner.img 6 7", 0, "not masked, opened 2\ncluster level 1 code 60: x 6 to 7, y 6 to 7\n"),
     ("list first.img 4 4 7 7", 0, "found 1, opened 1\npixel code 60: x 6, y 6\n"),
     ("list first.img 2 2 3 3", 0, "found 0, opened 1\n"),
     ("list first.img 6 6 9 4294967295", 0, "found 1, opened 1\npixel code 60: x 6, y 6\n"),
@@ -86,6 +93,9 @@ RUNS = [
     ("show empty.img", 2, f"empty.img: {CUT}"),
     ("show changed.img", 2, f"changed.img: {CHANGED}"),
     ("show text.img", 2, f"text.img: not a whole image: {LIMITS}"),
+    ("ask cut.img 0 0", 2, f"cut.img: {CUT}"),
+    ("ask first.img 8 0", 2, OFF_PANEL),
+    ("ask first.img 0 4294967295", 2, OFF_PANEL),
     ("list first.img 4 0 3 0", 2, "refused 8: the window is reversed: x0 > x1 or y0 > y1"),
     ("compare first.img small.img", 2, "first.img is of order 3 and small.img of order 1: no panel is of both"),
     ("picture large.img large.pbm", 2, "a panel of order 16 is too large for a picture: 13 is the largest order"),
@@ -103,6 +113,19 @@ RUNS = [
     ("image plain.pbm x.img --k 17", 2, LIMITS),
 ]
 
+# words that are no command line: status 2, the usage, and this as the last line of error
+MISUSES = [
+    ("ask first.img 1", "pkmask ask: error: the following arguments are required: y"),
+    ("ask first.img", "pkmask ask: error: the following arguments are required: x, y"),
+    ("ask first.img 1 one", "pkmask ask: error: argument y: invalid coordinate value: 'one'"),
+    ("ask first.img 1.5 1", "pkmask ask: error: argument x: invalid coordinate value: '1.5'"),
+    ("ask first.img -1 1", "pkmask ask: error: argument x: -1 is not from 0 to 4294967295"),
+    ("ask first.img 1 4294967296", "pkmask ask: error: argument y: 4294967296 is not from 0 to 4294967295"),
+    ("ask first.img 1 1 1", "pkmask: error: unrecognized arguments: 1"),
+    ("list first.img 0 0 1", "pkmask list: error: the following arguments are required: y1"),
+    ("list first.img 0 0 1 -1", "pkmask list: error: argument y1: -1 is not from 0 to 4294967295"),
+]
+
 # what the runs above have written
 WRITTEN = {"first.pbm": PACKED, "first.pgm": GRAY, "plain.img": FIRST, "packed.img": FIRST, "gray.img": FIRST, "again.pbm": LARGEST}
 
@@ -116,9 +139,19 @@ def failure(folder, line, status, expected):
     return f"pkmask {line}: status {run.returncode} and not {status}, wrote\n{run.stdout}{run.stderr}and not\n{''.join(written)}"
 
 
+def misuse(folder, line, expected):
+    """What is wrong with a run that is to be refused for its words, or nothing."""
+    run = subprocess.run([sys.executable, PKMASK, *line.split()], cwd=folder, capture_output=True, text=True)
+    first, last = run.stderr.startswith("usage: pkmask"), run.stderr.splitlines()[-1:]
+    if (run.returncode, run.stdout, first, last) == (2, "", True, [expected]):
+        return ""
+    return f"pkmask {line}: status {run.returncode} and not 2, wrote\n{run.stdout}{run.stderr}and not at last\n{expected}"
+
+
 def helps():
-    """Each command says how it is used, and those of pictures which value is masked."""
-    for command, says in ((), "compare"), (("picture",), "1 is masked"), (("image",), "255 is masked"), (("list",), "both corners"):
+    """Each command says how it is used, ask what a cluster is, and those of pictures which value is masked."""
+    pictures = (("picture",), "1 is masked"), (("image",), "255 is masked")
+    for command, says in ((), "compare"), (("ask",), "cluster of a pixel is"), (("list",), "both corners"), *pictures:
         run = subprocess.run([sys.executable, PKMASK, *command, "--help"], capture_output=True, text=True)
         if run.returncode != 0 or says not in run.stdout:
             return f"pkmask {' '.join(command)} --help: no '{says}' in\n{run.stdout}{run.stderr}"
@@ -134,6 +167,10 @@ def first_failure():
             wrong = failure(folder, line, status, expected)
             if wrong:
                 return wrong
+        for line, expected in MISUSES:
+            wrong = misuse(folder, line, expected)
+            if wrong:
+                return wrong
         for name, content in WRITTEN.items():
             with open(os.path.join(folder, name), "rb") as file:
                 if file.read() != content:
@@ -143,7 +180,7 @@ def first_failure():
 
 def main():
     wrong = first_failure()
-    print(wrong or f"pkmask: {len(RUNS)} command lines and {len(WRITTEN)} written files ok")
+    print(wrong or f"pkmask: {len(RUNS) + len(MISUSES)} command lines and {len(WRITTEN)} written files ok")
     return 1 if wrong else 0
 
 
