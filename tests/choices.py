@@ -202,3 +202,10 @@ def marked_and_beside(model):
         yield x, y
         if interleave(x ^ 1, y) not in model.codes:
             yield x ^ 1, y
+
+
+def block_ends(model):
+    """Of some blocks, the root among them: the pixels of the first and the last code, and of those just outside."""
+    for level, code in model.tree().blocks[-10:]:
+        ends = (code - 1, code, code + 4**level - 1, code + 4**level)
+        yield from (corner(end) for end in ends if 0 <= end < 4**model.order)

@@ -139,7 +139,7 @@ def further_calls(random, subject, model):
         fresh = call(random, subject, model, random.choice(WALKING + WALKING + tuple(OTHER_CALLS)))
         if fresh:
             model = fresh
-            for name in ("mark", "mark", "list", "nearest", "clear", "save"):
+            for name in ("mark", "mark", "ask", "list", "nearest", "clear", "save"):
                 step(random, subject, model, name)
             last_look(subject, model)
             random.choice(DAMAGES)(random, subject, model)

@@ -2,7 +2,7 @@
 
 import choices
 from lent import octets, words
-from model import Model, corner, words_needed
+from model import Model, corner, interleave, words_needed
 from subject import Subject, expect
 
 LOOKS = ("ask",) * 3 + ("nearest",) * 3 + ("count",) * 2 + ("list",) * 2 + ("save", "check")
@@ -25,6 +25,15 @@ def made(random, m, k, most, tally):
 
 def room(random, needed):
     return random.choice((needed, needed, needed + 1, needed + 7, max(needed - 1, 0), 0))
+
+
+def ask_call(subject, model, *pixel):
+    """The answer, and the law: a pixel is marked exactly when it is an element of the block told."""
+    refusal, marked, _, level, code = told = subject.call("ask", *pixel)
+    expect(f"ask{pixel}", told, model.ask(*pixel))
+    if not refusal:
+        is_element = (0, interleave(*pixel)) in model.tree().elements[level, code]
+        expect(f"ask{pixel}: marked, and an element of block {level}/{code}", marked, int(is_element))
 
 
 def nearest_call(subject, model, *search):
@@ -63,8 +72,7 @@ def step(random, subject, model, name):
         pixel = choices.pixel(random, model)
         expect(f"{name}{pixel}", subject.call(name, *pixel)[0], getattr(model, name)(*pixel))
     elif name == "ask":
-        pixel = choices.pixel(random, model)
-        expect(f"ask{pixel}", subject.call("ask", *pixel), model.ask(*pixel))
+        ask_call(subject, model, *choices.pixel(random, model))
     elif name == "nearest":
         nearest_call(subject, model, *choices.search(random, model))
     elif name == "count":
@@ -77,13 +85,13 @@ def step(random, subject, model, name):
 
 
 def last_look(subject, model):
-    """The register as a whole: sound, its image, and every marked pixel."""
+    """The register as a whole: sound, its image, and where pixels lie: marked ones, their neighbours, and those at the ends of blocks."""
     expect("check at the end", subject.call("check"), (0, 1, 0))
     image = model.image()
     output = octets(bytes(len(image)))
     expect("the last save", (subject.call("save", output=output), bytes(output.values())), ((0, len(image), 0), image))
-    for pixel in choices.marked_and_beside(model):
-        expect(f"the last ask{pixel}", subject.call("ask", *pixel), model.ask(*pixel))
+    for pixel in [*choices.marked_and_beside(model), *choices.block_ends(model)]:
+        ask_call(subject, model, *pixel)
     return image
 
 

@@ -1,5 +1,5 @@
 """The largest register: order 16, k = 2 and 24,576 pixels, against the model's image after marking, loading, filling, and clearing half;
-searches in it against a look at every pixel; and what lies beyond it, up to the 65,535 pixels of older versions."""
+in which blocks its pixels lie, and searches in it against a look at every pixel; and what lies beyond it, up to the 65,535 pixels of older versions."""
 
 import math
 import random
@@ -44,6 +44,16 @@ def holds(store, codes):
     listed = LIBRARY.pk_list(*store.arguments, 0, 0, 2**ORDER - 1, 2**ORDER - 1, *found.arguments)
     expect("list", (listed.refusal, listed.first, found.values() == sorted(codes) + [7] * 9), (0, len(codes), True))
     return image
+
+
+def asks(rolls, store, codes):
+    """Marked pixels with the panel's last corner, their neighbours, and pixels anywhere."""
+    model, last = Model(ORDER, K, MOST), 2**ORDER - 1
+    expect("the model's fill", model.fill(sorted(codes)), 0)
+    marked = [corner(code) for code in [4**ORDER - 1, *rolls.sample(sorted(codes), 30)]]
+    beside = [(x ^ rolls.randrange(4), y ^ rolls.randrange(4)) for x, y in marked]
+    for x, y in marked + beside + [(rolls.randint(0, last), rolls.randint(0, last)) for _ in range(30)]:
+        expect(f"ask({x}, {y})", told_by("ask", LIBRARY.pk_ask(*store.arguments, x, y)), model.ask(x, y))
 
 
 def ring():
@@ -124,6 +134,7 @@ def run(rolls):
     holds(third, codes)
     refused_beyond(third, codes, free)
     older_store(rolls)
+    asks(rolls, third, codes)
     searches(rolls, third, codes)
     damaged_search(rolls)
     gone = rolls.sample(sorted(codes), MOST // 2)
@@ -138,7 +149,7 @@ def main():
     except Difference as difference:
         print(f"largest: DIFFERENCE: {difference}")
         return 1
-    print(f"largest: order {ORDER}, k {K}, {MOST} pixels marked, loaded, filled, searched and half cleared, and {' and '.join(map(str, BEYOND))} refused, ok")
+    print(f"largest: order {ORDER}, k {K}, {MOST} pixels marked, loaded, filled, asked for, searched and half cleared, and {' and '.join(map(str, BEYOND))} refused, ok")
     return 0
 
 

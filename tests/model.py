@@ -1,7 +1,7 @@
 """A plain model of the register, written from its specification alone: a set of codes, and the blocks worked out anew from it.
 
-It shares nothing with the library or with python/: not even the interleaving. It answers as the calls do, (refusal, first, second), and
-nearest as (refusal, found, code, distance, opened, limit, complete).
+It shares nothing with the library or with python/: not even the interleaving. It answers as the calls do, (refusal, first, second), ask as
+(refusal, marked, opened, level, code) and nearest as (refusal, found, code, distance, opened, limit, complete).
 """
 
 LIMITS = {"m": (1, 16), "k": (2, 16), "most": (1, 24576)}
@@ -150,11 +150,11 @@ class Model:
         return self._become(set(codes))
 
     def ask(self, x, y):
+        """The smallest block is that of the lowest level: blocks of one level share no pixel."""
         if not self._on_panel(x, y):
-            return 4, 0, 0
-        code = interleave(x, y)
-        opened = sum(low <= code < low + 4**level for level, low in self.tree().blocks)
-        return 0, int(code in self.codes), opened
+            return 4, 0, 0, 0, 0
+        around = [block for block in self.tree().blocks if self._shares(block, x, y, x, y)]
+        return 0, int(interleave(x, y) in self.codes), len(around), *min(around)
 
     def nearest(self, x, y, budget):
         """The search itself: what is met and found, each with its distance first and its code next, so that the least is the one meant."""

@@ -1,5 +1,5 @@
-"""The model against the specification's sample panels, and its searches against a look at every pixel: it is to err, if at all, not where
-the library does."""
+"""The model against the specification's sample panels, its places of pixels against the law about them, and its searches against a look at
+every pixel: it is to err, if at all, not where the library does."""
 
 import random
 import sys
@@ -16,6 +16,18 @@ PANELS = [
     (3, 3, [0, 1, 4, 16, 17, 32, 33, 48, 49], "3/0 2/0 0/0 0/1 0/4 0/16 0/17 0/32 0/33 0/48 0/49"),
     (1, 2, [], "1/0"),
     (1, 2, [0, 1, 2, 3], "1/0 0/0 0/1 0/2 0/3"),
+]
+# m, k and the codes; then pixels, and of each whether it is marked, opened, level and code
+PLACES = [
+    (3, 3, [0, 1, 2, 60], {(1, 1): (0, 2, 1, 0), (0, 1): (1, 2, 1, 0), (3, 3): (0, 1, 3, 0), (6, 6): (1, 1, 3, 0), (2, 0): (0, 1, 3, 0)}),
+    (3, 3, [0, 1, 4], {(3, 3): (0, 2, 2, 0), (2, 0): (1, 2, 2, 0), (4, 0): (0, 1, 3, 0)}),
+    (3, 3, [60, 61, 63], {(6, 7): (0, 2, 1, 60), (7, 7): (1, 2, 1, 60), (5, 7): (0, 1, 3, 0)}),
+    (3, 3, [32, 33, 36], {(3, 7): (0, 2, 2, 32), (2, 4): (1, 2, 2, 32), (3, 3): (0, 1, 3, 0)}),
+    # 1/60 in 2/48 in the root
+    (3, 2, [0, 52, 60, 61], {(7, 7): (0, 3, 1, 60), (6, 6): (1, 3, 1, 60), (6, 4): (1, 2, 2, 48), (4, 4): (0, 2, 2, 48), (0, 0): (1, 1, 3, 0)}),
+    (1, 2, [], {(1, 1): (0, 1, 1, 0)}),
+    (1, 2, [0, 1, 2, 3], {(1, 1): (1, 1, 1, 0)}),
+    (16, 2, [2**32 - 3, 2**32 - 2], {(65535, 65535): (0, 2, 1, 2**32 - 4), (65533, 65535): (0, 1, 16, 0)}),
 ]
 # on the first panel: the place, the budget, and found, code, distance, opened, limit, complete
 SEARCHES = [
@@ -44,6 +56,35 @@ def entries(image):
 def smallest_around(code, blocks):
     """The block of which the pixel is an element."""
     return min((level, low) for level, low in blocks if low <= code < low + 4**level)
+
+
+def misplaced(model, x, y):
+    """What is said of the place of every pixel and does not hold of this one's."""
+    refusal, marked, opened, level, low = answer = model.ask(x, y)
+    code, blocks = interleave(x, y), model.tree().blocks
+    # those of the set that lie in the block and in no block inside it, whatever was gathered
+    elements = {other for other in model.codes if smallest_around(other, blocks) == (level, low)}
+    holds = {
+        "a block of the tree that contains the pixel": (level, low) in blocks and low <= code < low + 4**level,
+        "no smaller one does": smallest_around(code, blocks) == (level, low),
+        "opened are those that do": opened == sum(first <= code < first + 4**above for above, first in blocks),
+        "the pixel is marked": marked == (code in model.codes),
+        "exactly when it is an element of the block": marked == (code in elements) == ((0, code) in model.tree().elements[level, low]),
+    }
+    return [f"{sentence}: {sorted(model.codes)} {x, y} {answer}" for sentence, so in holds.items() if refusal or not so]
+
+
+def placed(rolls):
+    """The pixels of the sample panels, and those of random registers: all of a small panel, else the marked ones and some others."""
+    for m, k, codes, places in PLACES:
+        model = holding(m, k, codes)
+        yield {pixel: model.ask(*pixel) for pixel in places}, {pixel: (0, *expected) for pixel, expected in places.items()}
+    for model in (drawn(rolls) for _ in range(200)):
+        last = 2**model.order - 1
+        pixels = [(x, y) for x in range(last + 1) for y in range(last + 1)]
+        if model.order > 3:
+            pixels = [corner(code) for code in model.codes] + rolls.sample(pixels, 40)
+        yield [sentence for pixel in pixels for sentence in misplaced(model, *pixel)], []
 
 
 def broken(model, x, y):
@@ -102,10 +143,9 @@ def cases():
         yield entries(image), expected
         yield judge_image(m, k, 9, image), (0, set(codes))
     first = holding(3, 3, [0, 1, 2, 60])
-    yield first.ask(1, 1), (0, 0, 2)
-    yield first.ask(3, 3), (0, 0, 1)
+    yield from placed(random.Random(2))
     yield [first.count(4, 4, 7, 7), first.list(4, 4, 7, 7, room=1)], [(0, 1, 1), ((0, 1, 1), [60])]
-    yield first.ask(8, 0), (4, 0, 0)
+    yield [first.ask(*pixel) for pixel in ((8, 0), (0, 8), (FAR, 0), (7, FAR))], [(4, 0, 0, 0, 0)] * 4
     for place, budget, expected in SEARCHES:
         yield first.nearest(*place, budget), (0, *expected)
     yield holding(3, 3, []).nearest(4, 0, 1), (0, 0, 0, 0, 1, 0, 1)
@@ -141,7 +181,7 @@ def main():
         if told != expected:
             print(f"model: {told} and not {expected}")
             return 1
-    print(f"model: {number} facts of the sample panels and of searches ok")
+    print(f"model: {number} facts of the sample panels, of places and of searches ok")
     return 0
 
 

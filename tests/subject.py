@@ -20,22 +20,26 @@ REFUSALS = {
     "save": (3, 9, 13),
     "check": (3,),
 }
-FARTHEST = 2 * 65535**2
+LARGEST_CODE, FARTHEST = 2**32 - 1, 2 * 65535**2
 
 
 def largest_values(name, numbers, m, k, most):
     """The largest values of an answer, whatever the store holds."""
     slots = slots_for(k, most)
+    if name == "ask":
+        return 1, m, m, LARGEST_CODE
     if name == "nearest":
-        return 1, 2**32 - 1, FARTHEST, min(numbers[2], slots), FARTHEST, 1
+        return 1, LARGEST_CODE, FARTHEST, min(numbers[2], slots), FARTHEST, 1
     of_window = (most, slots)
-    return {"ask": (1, m), "count": of_window, "list": of_window, "save": (10 + 5 * (most + slots), 0), "check": (1, 0)}[name]
+    return {"count": of_window, "list": of_window, "save": (10 + 5 * (most + slots), 0), "check": (1, 0)}[name]
 
 
 def told_by(name, answer):
     """An answer of the library in the model's order."""
     if name in CHANGING:
         return answer, 0, 0
+    if name == "ask":
+        return answer.refusal, answer.marked, answer.opened, answer.level, answer.code
     if name == "nearest":
         return answer.refusal, answer.found, answer.code, answer.distance, answer.opened, answer.limit, answer.complete
     return answer.refusal, answer.first, answer.second
