@@ -62,7 +62,13 @@ static Output room_for(const Workload &work) { return {Codes(work.pixels.size())
 // After these, what the set holds is counted, so that one that does nothing is seen.
 static bool finds_nothing(int operation) { return operation == SAVE || operation == LOAD || operation == FILL; }
 
-// The C++ tree is pkreg's equal: it finds the same numbers, lists the same codes, saves the same image, and its store stays sound.
+static bool same_place(pk_place a, pk_place b)
+{
+    return a.refusal == b.refusal && a.marked == b.marked && a.opened == b.opened && a.level == b.level && a.code == b.code;
+}
+
+// The C++ tree is pkreg's equal: it finds the same numbers, places every pixel in the same block, lists the same codes, saves the same
+// image, and its store stays sound.
 static void must_agree(const Workload &work, uint32_t k)
 {
     Register ours(work.order, k, work.pixels.size());
@@ -72,6 +78,8 @@ static void must_agree(const Workload &work, uint32_t k)
         uint64_t found = perform(ours, work, operation, output);
         must(perform(other, work, operation, image) == found, "finds another number than pkreg", "C++ tree");
         must(ours.count(work.whole[0]) == other.count(work.whole[0]), "holds another number than pkreg", "C++ tree");
+        for (Pixel pixel : work.asked)
+            must(same_place(ours.place(pixel), other.place(pixel)), "places a pixel elsewhere than pkreg", "C++ tree");
         must(output.codes == image.codes, "lists other codes than pkreg", "C++ tree");
         must(output.length == image.length && output.bytes == image.bytes, "saves another image than pkreg", "C++ tree");
         other.must_be_sound();

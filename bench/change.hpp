@@ -168,12 +168,13 @@ __attribute__((noinline)) uint32_t clear(uint32_t *store, size_t words, uint32_t
     return refusal ? refusal : Change(store, code_of({x, y})).make(false, PK_NOT_MARKED, UINT32_MAX);
 }
 
-__attribute__((noinline)) pk_answer ask(const uint32_t *store, size_t words, uint32_t x, uint32_t y)
+__attribute__((noinline)) pk_place ask(const uint32_t *store, size_t words, uint32_t x, uint32_t y)
 {
     if (uint32_t refusal = judge_pixel(store, words, x, y))
-        return {refusal, 0, 0};
+        return {refusal, 0, 0, 0, 0};
     Place at = descend(store, code_of({x, y}), [](uint32_t, uint32_t, uint32_t) {});
-    return {PK_ACCEPTED, at.marked, at.depth + 1};
+    const Slot &block = slot_at(store, width_of(store[2]), at.slot);
+    return {PK_ACCEPTED, at.marked, at.depth + 1, block.level, block.code};
 }
 
 } // namespace unverified

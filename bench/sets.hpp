@@ -35,7 +35,8 @@ public:
     }
     bool mark(Pixel p) { return pk_mark(store.data(), store.size(), p.x, p.y) == PK_ACCEPTED; }
     bool clear(Pixel p) { return pk_clear(store.data(), store.size(), p.x, p.y) == PK_ACCEPTED; }
-    bool ask(Pixel p) const { return pk_ask(store.data(), store.size(), p.x, p.y).first == 1; }
+    pk_place place(Pixel p) const { return pk_ask(store.data(), store.size(), p.x, p.y); }
+    bool ask(Pixel p) const { return place(p).marked == 1; }
     Nearest nearest(Pixel p) const
     {
         pk_nearest_answer answer = pk_nearest(store.data(), store.size(), p.x, p.y, UINT32_MAX);
@@ -68,7 +69,8 @@ public:
     }
     bool mark(Pixel p) { return unverified::mark(store.data(), store.size(), p.x, p.y) == PK_ACCEPTED; }
     bool clear(Pixel p) { return unverified::clear(store.data(), store.size(), p.x, p.y) == PK_ACCEPTED; }
-    bool ask(Pixel p) const { return unverified::ask(store.data(), store.size(), p.x, p.y).first == 1; }
+    pk_place place(Pixel p) const { return unverified::ask(store.data(), store.size(), p.x, p.y); }
+    bool ask(Pixel p) const { return place(p).marked == 1; }
     uint32_t count(Window w) const { return unverified::count(store.data(), store.size(), w.x0, w.y0, w.x1, w.y1).first; }
     uint32_t list(Window w, Codes &output) const
     {
