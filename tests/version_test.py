@@ -1,4 +1,5 @@
-"""The version: the header, the shared library's file, its soname and the links to it, what a program asks for, and Python agree."""
+"""The version: the header, the shared library's file, its soname and the links to it, what a program asks for, Python, and the names of the
+library in the README and the manual agree."""
 
 import os
 import re
@@ -39,6 +40,9 @@ def cases():
         yield f"what build/{link} leads to", os.path.basename(os.path.realpath(os.path.join(BUILD, link))), f"libpkreg.so.{version}"
     yield "the soname of the shared library", dynamic("libpkreg.so", "SONAME"), [soname]
     yield "what build/dark_frame_cpp asks for", soname in dynamic("dark_frame_cpp", "NEEDED"), True
+    for document in "README.md", os.path.join("docs", "MANUAL.md"):
+        with open(os.path.join(ROOT, document)) as file:
+            yield f"the library in {document}", set(re.findall(r"libpkreg\.so\.\d+", file.read())), {soname}
 
 
 def main():
