@@ -38,6 +38,15 @@ def misnumber(random, subject, model):
         subject.store[6] = random.choice((0, random.randint(1, slots), slots, slots + 1, random.getrandbits(32), SPOILED))
 
 
+def misplace(random, subject, model):
+    """The levels and codes of some blocks, the root's among them, become others."""
+    width, slots = 8 + 10 * (model.k - 1), slots_for(model.k, model.most)
+    for slot in {0, *(random.randrange(slots) for _ in range(random.randint(0, 4)))}:
+        levels = (0, random.randint(1, model.order), model.order + 1, random.getrandbits(32), SPOILED)
+        at, value = random.choice(((0, random.choice(levels)), (1, random.getrandbits(2 * model.order)), (1, random.getrandbits(32))))
+        subject.store[8 + slot * width + at] = value
+
+
 def copy_slot(random, subject, model):
     """One slot's words over another's: two slots claim to be one block."""
     width = 8 + 10 * (model.k - 1)
@@ -81,4 +90,4 @@ def other_sizes(random, subject, model):
     subject.store[at] = value if at == 0 or random.random() < 0.5 else within_limits[at]
 
 
-DAMAGES = (spoil, scatter, scatter, misnumber, misnumber, copy_slot, name_each_other, name_next, other_sizes)
+DAMAGES = (spoil, scatter, scatter, misnumber, misnumber, misplace, copy_slot, name_each_other, name_next, other_sizes)
