@@ -176,7 +176,7 @@ def pixel_of(code):
 
 
 def square_of(level, code):
-    """The square of a block, as (x0, y0, x1, y1), both corners included; that of a pixel has level 0."""
+    """The square of a block, as (x0, y0, x1, y1), both corners included; a pixel is a block of level 0."""
     x, y = pixel_of(code)
     return x, y, x + 2**level - 1, y + 2**level - 1
 

@@ -28,12 +28,12 @@ def room(random, needed):
 
 
 def ask_call(subject, model, *pixel):
-    """The answer, and the law: a pixel is marked exactly when it is an element of the block told."""
+    """The law first, of whatever block is told: a pixel is marked exactly when it is an element of it. Then the whole answer."""
     refusal, marked, _, level, code = told = subject.call("ask", *pixel)
-    expect(f"ask{pixel}", told, model.ask(*pixel))
     if not refusal:
-        is_element = (0, interleave(*pixel)) in model.tree().elements[level, code]
-        expect(f"ask{pixel}: marked, and an element of block {level}/{code}", marked, int(is_element))
+        elements = model.tree().elements.get((level, code), ())
+        expect(f"ask{pixel} gives {told}: marked when an element of that block", marked, int((0, interleave(*pixel)) in elements))
+    expect(f"ask{pixel}", told, model.ask(*pixel))
 
 
 def nearest_call(subject, model, *search):
