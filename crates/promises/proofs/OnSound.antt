@@ -1,7 +1,7 @@
 -- What each call answers and leaves by equation, on a store that holds this set; and 13 on a spoiled one.
 use Prim.Native.Nat.{ℕ, _≤_, _<_}
 use native.Mathlib.Omega.{arith}
-use mathlib.Core.Path.{_≡_, refl, ap, ap₂, sym, _∙_}
+use mathlib.Core.Path.{_≡_, refl, ap, ap₂, sym, subst, _∙_}
 use mathlib.Core.Bool.{Bool, true, false}
 use mathlib.Core.Logic.{_↔_}
 use mathlib.Core.List.{List, _++_}
@@ -75,7 +75,7 @@ module _ {words set : List ℕ} (holds : Holds words set) {a : Answer} where
       let r = where-holds (where-holds m (holds .sound .usable)) on .sound set holds in
       let e = r .returns .is in
       let law = marked-as-element (panelOf (sizesOf words)) (member set) (codeOf x y) (holds .sound .usable .valid .panel .k-from) (r .smallest) in
-      rw (e, ← law) (yes-exactly (member set (codeOf x y)))
+      rw e (subst (λ (b : Bool). (yesNo (member set (codeOf x y)) ≡ 1) ↔ (b ≡ true)) law (yes-exactly (member set (codeOf x y))))
 
   -- 02, P3: those of the part on the panel, also where it is empty
   module _ {x0 y0 x1 y1 : ℕ} (ordered : Ordered (windowGiven x0 y0 x1 y1)) where
