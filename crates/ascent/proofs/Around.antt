@@ -7,10 +7,10 @@ use Rattle.pktree.specs.Lists.{Every}
 use Rattle.pktree.proofs.Arranged.{quarterLevel}
 use Rattle.measures.specs.Slot.{slotPart, OnlySlot}
 use Rattle.store.specs.Placed.{Placed, slotsOf}
-use Rattle.store.specs.FreeSlots.{occurrences}
+use Rattle.freeslots.specs.FreeSlots.{occurrences}
 use Rattle.store.specs.Numbers.{Numbered}
 use Rattle.store.proofs.Standing.{frame, every-right}
-use Rattle.store.proofs.FreeChains.{absent, occurrences-same, occurrences-join}
+use Rattle.freeslots.proofs.FreeChains.{absent, occurrences-same, occurrences-join}
 use Rattle.store.proofs.SlotsLeft.{left-kept}
 use Rattle.descent.specs.Way.{Frame}
 use Rattle.ascent.proofs.Frames.{waySlots}

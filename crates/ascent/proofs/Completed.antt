@@ -6,7 +6,7 @@ use Rattle.pktree.specs.Tree.{pixels}
 use Rattle.pktree.proofs.Arranged.{LocallyRight}
 use Rattle.measures.specs.Slot.{slotPart}
 use Rattle.store.specs.Placed.{Placed, slotsOf}
-use Rattle.store.specs.FreeSlots.{occurrences}
+use Rattle.freeslots.specs.FreeSlots.{occurrences}
 use Rattle.store.specs.Numbers.{Numbered}
 use Rattle.store.specs.Sound.{SlotsShared}
 use Rattle.store.proofs.Standing.{SlotSays, Stands}
@@ -14,7 +14,7 @@ use Rattle.ascent.proofs.Pending.{Setting, widthIn, slotsIn}
 use native.Mathlib.Omega.{arith}
 use mathlib.Core.Logic.{_⊎_}
 use Rattle.pktree.specs.Elements.{size, blockAt, empty}
-use Rattle.store.proofs.FreeChains.{occurrences-join}
+use Rattle.freeslots.proofs.FreeChains.{occurrences-join}
 use Rattle.store.proofs.SlotsLeft.{SlotsLeft}
 use Rattle.descent.specs.Way.{Frame, plug}
 use Rattle.ascent.proofs.Frames.{RootStands, FramesRight, waySlots, FramesStand, rootElements, rootSlot, plug-root, whole-right}

@@ -7,7 +7,7 @@ use Rattle.pktree.specs.Panel.{Aligned}
 use Rattle.pktree.specs.Elements.{_⧺_, size, blockAt, empty}
 use Rattle.pktree.proofs.Arranged.{Arranged, LocallyRight, arranged-le}
 use Rattle.measures.specs.Slot.{slotPart}
-use Rattle.store.specs.Element.{tagSlots}
+use Rattle.elements.specs.Element.{tagSlots}
 use Rattle.store.specs.Placed.{Placed, slotsOf}
 use Rattle.store.proofs.Standing.{SlotSays, Stands}
 use Rattle.descent.specs.Way.{Frame, plug}

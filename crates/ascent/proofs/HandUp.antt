@@ -16,11 +16,11 @@ use Rattle.pktree.proofs.Regroup.{Disturbed}
 use Rattle.pktree.proofs.Edits.{dissolve}
 use Rattle.pktree.proofs.Unlabelled.{size-unlabelled, local-unlabelled}
 use Rattle.store.specs.Placed.{Placed, slotsOf}
-use Rattle.store.specs.FreeSlots.{occurrences}
+use Rattle.freeslots.specs.FreeSlots.{occurrences}
 use Rattle.store.specs.Numbers.{Numbered}
 use Rattle.store.proofs.Standing.{Stands}
 use Rattle.store.proofs.PlacedJoin.{slots-join, stands-join}
-use Rattle.store.proofs.FreeChains.{occurrences-join}
+use Rattle.freeslots.proofs.FreeChains.{occurrences-join}
 use Rattle.store.proofs.SlotsLeft.{SlotsLeft}
 use Rattle.descent.specs.Way.{Frame}
 use Rattle.ascent.proofs.Frames.{FrameRight, waySlots, FramesStand, frame-holds, plug-pixels}

@@ -12,7 +12,7 @@ use Rattle.pktree.proofs.Forests.{size-join}
 use Rattle.pktree.proofs.Alignment.{blockCode, blockCode-le, blockCode-lt}
 use Rattle.pktree.proofs.Arranged.{Arranged, LocallyRight}
 use Rattle.pktree.proofs.Regroup.{countAround, Disturbed, formed, nothing-to-form}
-use Rattle.store.specs.Splice.{codeAt}
+use Rattle.elements.specs.Splice.{codeAt}
 use Rattle.store.specs.Placed.{Placed}
 use Rattle.store.proofs.Standing.{SlotSays}
 use Rattle.runs.specs.Run.{Near, codesFrom, countNear, IsRun}

@@ -11,12 +11,13 @@ use Rattle.pktree.proofs.Forests.{pixels-join}
 use Rattle.pktree.proofs.Alignment.{blockCode}
 use Rattle.pktree.proofs.Arranged.{Arranged, arranged-le}
 use Rattle.store.specs.Placed.{Placed, slotsOf}
-use Rattle.store.specs.Numbers.{numberBetween, numberIn, numberOfElements}
+use Rattle.store.specs.Numbers.{numberBetween, numberIn}
+use Rattle.sums.specs.Sum.{numberOfElements}
 use Rattle.store.proofs.Standing.{elementWords, Stands, every-left, every-right}
 use Rattle.store.proofs.PlacedJoin.{stands-parts}
 use Rattle.store.proofs.NumbersBetween.{number-join, number-few, none-below, none-above}
 use Rattle.store.proofs.BlockNumbers.{OwnPixels, number-is-own, tree-numbered}
-use Rattle.store.proofs.ElementNumbers.{elements-number}
+use Rattle.sums.proofs.ElementNumbers.{elements-number}
 use Rattle.descent.specs.Way.{Frame, plug}
 use Rattle.ascent.proofs.Frames.{FramesRight, waySlots}
 use Rattle.ascent.proofs.FramesOfSound.{around-block}

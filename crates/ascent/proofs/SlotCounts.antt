@@ -7,9 +7,9 @@ use mathlib.Core.List.{List, [], _∷_, _++_}
 use Rattle.pktree.specs.Elements.{_⧺_, blockAt}
 use Rattle.pktree.specs.Lists.{Every}
 use Rattle.store.specs.Placed.{Placed, slotsOf}
-use Rattle.store.specs.FreeSlots.{occurrences}
+use Rattle.freeslots.specs.FreeSlots.{occurrences}
 use Rattle.store.specs.Sound.{SlotsShared}
-use Rattle.store.proofs.FreeChains.{occurrences-same, occurrences-other, occurrences-join}
+use Rattle.freeslots.proofs.FreeChains.{occurrences-same, occurrences-other, occurrences-join}
 use Rattle.store.proofs.PlacedJoin.{slots-join}
 use Rattle.descent.specs.Way.{Frame, plug}
 use Rattle.ascent.proofs.Frames.{waySlots}

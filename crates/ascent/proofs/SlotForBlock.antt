@@ -15,7 +15,7 @@ use Rattle.store.specs.Sound.{SlotsShared}
 use Rattle.store.proofs.PlacedJoin.{slots-are-blocks}
 use Rattle.store.proofs.SoundView.{slots-suffice}
 use Rattle.store.proofs.SlotTotals.{shared-length}
-use Rattle.store.proofs.FreeChains.{occurrences-join}
+use Rattle.freeslots.proofs.FreeChains.{occurrences-join}
 use Rattle.descent.specs.Way.{Frame, plug}
 use Rattle.ascent.proofs.Frames.{waySlots, rootElements, rootSlot, plug-root, plug-pixels, whole-right}
 use Rattle.ascent.proofs.Pending.{Setting, slotsIn, Around}

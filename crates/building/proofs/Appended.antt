@@ -8,10 +8,10 @@ use Rattle.pktree.specs.Elements.{empty}
 use Rattle.pktree.proofs.Alignment.{pow-pos}
 use Rattle.measures.specs.declared.sizes.Sizes.{Sizes}
 use Rattle.measures.specs.declared.sizes.Layout.{Layout}
-use Rattle.building.specs.declared.build.Build.{Build}
-use Rattle.building.specs.Build.{emptyBuild, Building, AppendDue, AppendDone}
+use Rattle.packing.specs.declared.Build.{Build}
+use Rattle.packing.specs.Build.{emptyBuild, Building, AppendDue, AppendDone}
 use Rattle.building.specs.Finish.{Appended, BuildAt}
-use Rattle.building.proofs.PackTurns.{beside-itself, beside-then}
+use Rattle.packing.proofs.PackTurns.{beside-itself, beside-then}
 
 -- nothing is built yet
 building-first : {sizes : Sizes} {layout : Layout} {words stack codes : List ℕ} {build : Build} → build ≡ emptyBuild → BuildAt sizes layout words stack codes

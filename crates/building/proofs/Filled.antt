@@ -11,8 +11,8 @@ use Rattle.measures.specs.Sizes.{sizesOf, storeWords, ValidSizes}
 use Rattle.measures.specs.Layout.{layoutOf, storeEnd, LaidOut}
 use Rattle.measures.proofs.SlotWrites.{take-less}
 use Rattle.measures.proofs.Usable.{sizes-valid, sizes-kept, usable-kept, layout-fits}
-use Rattle.building.specs.declared.build.Build.{Build}
-use Rattle.building.specs.Growing.{stackWords}
+use Rattle.packing.specs.declared.Build.{Build}
+use Rattle.packing.specs.Growing.{stackWords}
 use Rattle.building.specs.Finish.{BuildDue, Replaced, BuildAt, Appended, FinishAt, FinishDue, Finished}
 
 module _ {sizes : Sizes} {layout : Layout} {words words₁ stack stack₁ codes : List ℕ} {r : Build} {number : ℕ} (begun : BuildAt sizes layout words stack codes)

@@ -18,21 +18,21 @@ use Rattle.measures.specs.Slot.{slotPart, numberWord, elementIndex}
 use Rattle.measures.proofs.SlotWrites.{take-less}
 use Rattle.measures.proofs.Usable.{sizes-kept, usable-kept}
 use Rattle.store.specs.Placed.{Placed, slotsOf}
-use Rattle.store.specs.FreeSlots.{FreeSlots, numbersFrom, FreeFrom}
+use Rattle.freeslots.specs.FreeSlots.{FreeSlots, numbersFrom, FreeFrom}
 use Rattle.store.proofs.Standing.{SlotSays, Stands, frame}
-use Rattle.store.proofs.FreeChains.{every-map, absent}
-use Rattle.store.proofs.FreedSlots.{numbers-before}
+use Rattle.freeslots.proofs.FreeChains.{every-map, absent}
+use Rattle.freeslots.proofs.FreedSlots.{numbers-before}
 use Rattle.store.proofs.BlockNumbers.{TreeNumbers, tree-numbers-kept}
 use Rattle.store.proofs.SoundView.{slots-suffice}
 use Rattle.rewrite.proofs.SlotNows.{now-says}
-use Rattle.building.specs.declared.build.Build.{Build}
-use Rattle.building.specs.Blocks.{LayDue, BlockLaid}
-use Rattle.building.specs.Build.{PackCompleteAt, PackCompleteDue, CompletePacked, PackCompleteDone}
+use Rattle.packing.specs.declared.Build.{Build}
+use Rattle.laying.specs.Blocks.{LayDue, BlockLaid}
+use Rattle.packing.specs.Build.{PackCompleteAt, PackCompleteDue, CompletePacked, PackCompleteDone}
 use Rattle.building.specs.Finish.{Replaced, FinishAt, FinishDue, Finished}
-use Rattle.building.proofs.Growth.{root-right, right-is-small}
-use Rattle.building.proofs.StackWords.{grown-lies}
-use Rattle.building.proofs.SlotNumbers.{numbered-below}
-use Rattle.building.proofs.Appending.{grown-more}
+use Rattle.packing.proofs.Growth.{root-right, right-is-small}
+use Rattle.packing.proofs.StackWords.{grown-lies}
+use Rattle.packing.proofs.SlotNumbers.{numbered-below}
+use Rattle.packing.proofs.Appending.{grown-more}
 use Rattle.building.proofs.RootLaid.{RootLaid, holds-root}
 
 module _ {sizes : Sizes} {layout : Layout} {words stack : List ℕ} {build : Build} {number : ℕ} {codes : List ℕ} (due : FinishAt sizes layout words stack build number codes) where

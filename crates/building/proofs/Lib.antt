@@ -1,11 +1,3 @@
-pub mod Growth
-pub mod OpenElements
-pub mod LaidBlocks
-pub mod StackWords
-pub mod SlotNumbers
-pub mod Packing
-pub mod PackTurns
-pub mod Appending
 pub mod Appended
 pub mod RootLaid
 pub mod Finishing

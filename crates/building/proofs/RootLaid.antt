@@ -16,12 +16,12 @@ use Rattle.measures.specs.Sizes.{panelOf, slotCount, slotWidth, sizesOf, Usable
 use Rattle.measures.specs.Layout.{layoutOf}
 use Rattle.measures.specs.Slot.{slotPart, numberWord}
 use Rattle.store.specs.Placed.{Placed, slotsOf}
-use Rattle.store.specs.FreeSlots.{FreeSlots, occurrences, numbersFrom}
+use Rattle.freeslots.specs.FreeSlots.{FreeSlots, occurrences, numbersFrom}
 use Rattle.store.specs.Sound.{Holds}
 use Rattle.store.proofs.Standing.{SlotSays, Stands, complete-slot, depth-below-level, every-join}
 use Rattle.store.proofs.PlacedJoin.{slots-are-blocks}
 use Rattle.store.proofs.BlockNumbers.{TreeNumbers, OwnPixels, own-whole, block-right, tree-right, numbered-by-used}
-use Rattle.building.proofs.SlotNumbers.{shared-out}
+use Rattle.packing.proofs.SlotNumbers.{shared-out}
 
 -- the root has elements that are right, their blocks are in slots 1, 2 and so on, all say how many pixels they have, and the other slots are in
 -- the chain

@@ -8,8 +8,8 @@ use Rattle.measures.specs.declared.sizes.Sizes.{Sizes}
 use Rattle.measures.specs.declared.sizes.Layout.{Layout}
 use Rattle.measures.specs.Sizes.{panelOf, sizesOf, storeWords, UsableStore}
 use Rattle.store.specs.Sound.{Holds}
-use Rattle.building.specs.declared.build.Build.{Build}
-use Rattle.building.specs.Build.{Ground, Beside, Building}
+use Rattle.packing.specs.declared.Build.{Build}
+use Rattle.packing.specs.Build.{Ground, Beside, Building}
 
 -- whatever the words from 4 on are
 pub record BuildDue (words : List ℕ) (sizes : Sizes) (codes : List ℕ) : Type 0 where

@@ -1,4 +1,1 @@
-pub mod Growing
-pub mod Blocks
-pub mod Build
 pub mod Finish

@@ -1,10 +1,10 @@
 ghost use Rattle.building.specs.Finish.{FinishDue, Finished};
-use crate::blocks::lay_block;
-use crate::build::Build;
-use crate::build::pack_complete;
+use freeslots::free_from;
+use laying::lay_block;
 use measures::sizes::Layout;
 use measures::sizes::Sizes;
-use store::free::free_from;
+use packing::Build;
+use packing::pack_complete;
 
 // All codes are appended: what is left on the stack are the root's elements.
 pub fn finish(

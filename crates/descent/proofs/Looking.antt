@@ -15,10 +15,10 @@ use Rattle.pktree.proofs.Arranged.{Arranged, arranged-upper, arranged-join}
 use Rattle.pktree.proofs.Absurd.{zero-is-not-one}
 use Rattle.pktree.proofs.Forests.{join-assoc, size-join}
 use Rattle.measures.specs.Slot.{slotPart, elementIndex}
-use Rattle.store.specs.Element.{elementOf, elementAt}
-use Rattle.store.specs.Splice.{codeAt, PlaceOf}
-use Rattle.store.specs.declared.elements.Element.{Element}
-use Rattle.store.specs.declared.elements.Element.the-variants.{Pixel, Block}
+use Rattle.elements.specs.Element.{elementOf, elementAt}
+use Rattle.elements.specs.Splice.{codeAt, PlaceOf}
+use Rattle.elements.specs.declared.Element.{Element}
+use Rattle.elements.specs.declared.Element.the-variants.{Pixel, Block}
 use Rattle.store.specs.Placed.{Placed}
 use Rattle.store.proofs.BlockView.{SplitAt, at-pixel, at-block, split-at, element-pixel, element-block, BlockView, ChildView, child-view}
 use Rattle.descent.specs.Located.{EndsBefore, OwnPixel, BetweenElements, LookedHere, InnerBlock, PlaceIn}

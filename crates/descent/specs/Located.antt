@@ -3,10 +3,10 @@ use Prim.Native.Nat.{ℕ, suc, _^_, _/_, _<_, _+_, _≤_}
 use mathlib.Core.Path.{_≡_}
 use mathlib.Core.Bool.{Bool, true, false}
 use mathlib.Core.List.{List, [], _∷_}
-use Rattle.store.specs.Element.{elementAt}
-use Rattle.store.specs.Splice.{PlaceOf}
-use Rattle.store.specs.declared.elements.Element.{Element}
-use Rattle.store.specs.declared.elements.Element.the-variants.{Pixel, Block}
+use Rattle.elements.specs.Element.{elementAt}
+use Rattle.elements.specs.Splice.{PlaceOf}
+use Rattle.elements.specs.declared.Element.{Element}
+use Rattle.elements.specs.declared.Element.the-variants.{Pixel, Block}
 use Rattle.descent.specs.declared.Ahead.{Ahead}
 use Rattle.descent.specs.declared.Ahead.the-variants.{Here, Inner}
 use mathlib.Core.Logic.{_⊎_}

@@ -6,13 +6,13 @@ ghost use Rattle.measures.specs.Slot.{elementIndex};
 ghost use Rattle.measures.specs.Layout.{LayoutFits, mostElements};
 ghost use Rattle.descent.specs.Located.{Looked, CanEnter, FoundAt, LocateMeets};
 ghost use Rattle.descent.specs.Way.{pathLength};
+use elements::Element;
+use elements::element_at;
+use elements::find_place;
 use measures::sizes::Layout;
 use measures::slots::SLOT_HEAD;
 use measures::slots::slot_part;
 use measures::slots::wide;
-use store::elements::Element;
-use store::elements::element_at;
-use store::elements::find_place;
 use store::opening::Opening;
 use store::opening::open_part;
 

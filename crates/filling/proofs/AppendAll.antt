@@ -7,8 +7,8 @@ use lib.ListN.{length, getD, take, drop, drop-of-length-le}
 use lib.Seq.{take-suc, drop-cons, take-all}
 use Rattle.measures.specs.declared.sizes.Sizes.{Sizes}
 use Rattle.measures.specs.declared.sizes.Layout.{Layout}
-use Rattle.building.specs.declared.build.Build.{Build}
-use Rattle.building.specs.Build.{AppendDue, AppendDone}
+use Rattle.packing.specs.declared.Build.{Build}
+use Rattle.packing.specs.Build.{AppendDue, AppendDone}
 use Rattle.building.specs.Finish.{Appended}
 use Rattle.building.proofs.Appended.{append-due, one-appended}
 

@@ -9,15 +9,15 @@ use crate::codes::all_on_panel;
 use crate::codes::ascend;
 use answers::Outcome;
 use answers::Refusal;
-use building::build::Build;
-use building::build::append;
-use building::build::empty_build;
-use building::build::empty_stack;
 use building::finish::finish;
 use measures::sizes::Layout;
 use measures::sizes::Sizes;
 use measures::sizes::layout_of;
 use measures::slots::wide;
+use packing::Build;
+use packing::append;
+use packing::empty_build;
+use packing::empty_stack;
 
 fn append_all(
     store: &mut [u32],

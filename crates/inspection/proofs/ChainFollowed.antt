@@ -10,7 +10,7 @@ use Rattle.measures.specs.declared.sizes.Layout.{Layout}
 use Rattle.measures.specs.Layout.{LayoutFits, SlotOffset}
 use Rattle.measures.specs.Slot.{slotPart, levelWord, nextWord}
 use Rattle.measures.proofs.SlotWrites.{slot-word}
-use Rattle.store.specs.FreeSlots.{noSlot, FreeChain, FreeSlots}
+use Rattle.freeslots.specs.FreeSlots.{noSlot, FreeChain, FreeSlots}
 use Rattle.store.proofs.Standing.{every-join}
 use Rattle.inspection.specs.Chain.{ChainOf, ChainEnds, NoEnd}
 

@@ -5,7 +5,7 @@ use mathlib.Core.List.{List}
 use lib.ListN.{length}
 use Rattle.pktree.specs.Lists.{Every}
 use Rattle.measures.specs.declared.sizes.Layout.{Layout}
-use Rattle.store.specs.FreeSlots.{FreeSlots}
+use Rattle.freeslots.specs.FreeSlots.{FreeSlots}
 use Rattle.inspection.specs.declared.chain.Chain.{Chain}
 use Rattle.inspection.specs.declared.chain.Chain.the-variants.{Ends, Broken}
 

@@ -5,8 +5,8 @@ use mathlib.Core.Bool.{Bool, false}
 use mathlib.Core.List.{List, _∷_}
 use Rattle.pktree.specs.Entries.{Entry, entry}
 use Rattle.pktree.proofs.LocalTest.{passTest}
-use Rattle.store.specs.declared.elements.Element.{Element}
-use Rattle.store.specs.declared.elements.Element.the-variants.{Pixel, Block}
+use Rattle.elements.specs.declared.Element.{Element}
+use Rattle.elements.specs.declared.Element.the-variants.{Pixel, Block}
 use Rattle.inspection.specs.declared.pass.Pass.{Pass}
 use Rattle.inspection.specs.declared.pass.Passing.{Passing}
 use Rattle.inspection.specs.declared.pass.Passing.the-variants.{On, Refused}

@@ -4,8 +4,8 @@ ghost use lib.Dec.{eqb};
 ghost use Rattle.pktree.specs.Entries.{entry};
 ghost use Rattle.pktree.proofs.LocalTest.{tally};
 ghost use Rattle.inspection.specs.Pass.{CanPass, PassMeets, entryOf, firstPass};
+use elements::Element;
 use morton::block_size;
-use store::elements::Element;
 
 // What one pass over the elements of a block knows of those behind it: the first code past them, the quarter of the last one, and how many
 // of them are in that quarter.

@@ -1,4 +1,1 @@
-pub mod WrittenAt
-pub mod Lists
-pub mod BlockLists
 pub mod ListEnds

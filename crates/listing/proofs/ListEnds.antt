@@ -36,8 +36,9 @@ use Rattle.query.specs.Counting.{ofBlocks, numbersOf, RootCounted, SumWithin}
 use Rattle.query.proofs.Opens.{list-opens}
 use Rattle.query.proofs.WholeTree.{whole-tree}
 use Rattle.query.proofs.RootCount.{rangeOf, AnswersIn, of-root, root-tested, root-found, part-between, part-empty, part-counted}
-use Rattle.listing.specs.Listing.{writtenAt, Lists, BlockListed, RootListed, CountedBefore}
-use Rattle.listing.proofs.WrittenAt.{written-front}
+use Rattle.collecting.specs.Listing.{writtenAt, Lists, BlockListed, RootListed}
+use Rattle.listing.specs.Counted.{CountedBefore}
+use Rattle.collecting.proofs.WrittenAt.{written-front}
 
 -- 13 of a walk is 13 of list
 counted-not : (opens : Window → Forest → ℕ) {words before after : List ℕ} (window : Window) (refusal : Refusal) → length after ≡ length before

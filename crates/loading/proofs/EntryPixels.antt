@@ -14,9 +14,9 @@ use Rattle.measures.specs.declared.sizes.Layout.{Layout}
 use Rattle.measures.specs.Sizes.{ValidSizes}
 use Rattle.measures.specs.Layout.{LaidOut}
 use Rattle.measures.proofs.Usable.{sizes-valid}
-use Rattle.building.specs.declared.build.Build.{Build}
-use Rattle.building.specs.Growing.{stackWords}
-use Rattle.building.specs.Build.{emptyBuild, AppendDue, AppendDone}
+use Rattle.packing.specs.declared.Build.{Build}
+use Rattle.packing.specs.Growing.{stackWords}
+use Rattle.packing.specs.Build.{emptyBuild, AppendDue, AppendDone}
 use Rattle.building.specs.Finish.{Appended}
 use Rattle.building.proofs.Appended.{appended-itself, none-appended, append-due, one-appended}
 use Rattle.building.proofs.Filled.{fill-at}

@@ -8,8 +8,8 @@ use Rattle.pktree.specs.Entries.{pixelEntries}
 use Rattle.measures.specs.declared.sizes.Sizes.{Sizes}
 use Rattle.measures.specs.declared.sizes.Layout.{Layout}
 use Rattle.measures.specs.Sizes.{panelOf, sizesOf, UsableStore}
-use Rattle.building.specs.declared.build.Build.{Build}
-use Rattle.building.specs.Build.{Building}
+use Rattle.packing.specs.declared.Build.{Build}
+use Rattle.packing.specs.Build.{Building}
 use Rattle.building.specs.Finish.{BuildAt}
 use Rattle.image.specs.Parts.{entriesAt}
 

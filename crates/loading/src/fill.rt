@@ -4,16 +4,16 @@ ghost use mathlib.Core.List.{[]};
 ghost use lib.ListN.{length};
 ghost use Rattle.building.specs.Finish.{Appended, Replaced};
 ghost use Rattle.loading.specs.Filled.{pixelsTo, pixelsFrom, pixelsGiven, EntryDue, EntriesAt, ReplaceDue};
-use building::build::Build;
-use building::build::append;
-use building::build::empty_build;
-use building::build::empty_stack;
 use building::finish::finish;
 use image::parts::byte_at;
 use image::parts::code_at;
 use measures::sizes::Layout;
 use measures::sizes::Sizes;
 use measures::sizes::layout_of;
+use packing::Build;
+use packing::append;
+use packing::empty_build;
+use packing::empty_stack;
 
 // One entry of the image: a pixel is appended, a block is passed over, since the pixels make the blocks.
 fn append_entry(

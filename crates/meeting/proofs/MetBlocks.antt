@@ -12,9 +12,9 @@ use Rattle.pktree.specs.Lists.{select, total}
 use Rattle.pktree.specs.Elements.{Forest, empty, pixel, blockAt, _⧺_, unlabelled}
 use Rattle.pktree.specs.Tree.{BlockOf, blockOf}
 use Rattle.pktree.proofs.WindowParts.{select-join, total-join}
-use Rattle.store.specs.declared.elements.Element.{Element}
-use Rattle.store.specs.declared.elements.Element.the-variants.{Block}
-use Rattle.store.specs.Element.{elementAt}
+use Rattle.elements.specs.declared.Element.{Element}
+use Rattle.elements.specs.declared.Element.the-variants.{Block}
+use Rattle.elements.specs.Element.{elementAt}
 use Rattle.store.specs.Placed.{Placed}
 use Rattle.store.proofs.PassedElements.{OneElement, is-pixel, is-block}
 use Rattle.searching.specs.Distance.{squaredDistance, blockDistance}

@@ -11,9 +11,9 @@ use borrow.Author.Tests.{lt-ltb, le-ltb}
 use Rattle.pktree.specs.Lists.{total}
 use Rattle.pktree.specs.Elements.{empty}
 use Rattle.pktree.specs.Tree.{blockOf}
-use Rattle.store.specs.declared.elements.Element.{Element}
-use Rattle.store.specs.declared.elements.Element.the-variants.{Pixel, Block}
-use Rattle.store.specs.Element.{tagSlots}
+use Rattle.elements.specs.declared.Element.{Element}
+use Rattle.elements.specs.declared.Element.the-variants.{Pixel, Block}
+use Rattle.elements.specs.Element.{tagSlots}
 use Rattle.searching.specs.Distance.{squaredDistance, blockDistance}
 use Rattle.searching.proofs.Pruned.{isNear}
 use Rattle.frontier.specs.declared.Entry.{Entry}

@@ -4,7 +4,7 @@ use mathlib.Core.Path.{sym, subst}
 use mathlib.Core.List.{List}
 use Rattle.pktree.specs.Elements.{Forest, empty, _⧺_, unlabelled}
 use Rattle.pktree.proofs.Unlabelled.{unlabelled-join}
-use Rattle.store.specs.Element.{elementAt}
+use Rattle.elements.specs.Element.{elementAt}
 use Rattle.store.specs.Placed.{Placed}
 use Rattle.store.proofs.PassedElements.{OneElement, Passed, none-passed, one-more-passed, all-passed}
 use Rattle.meeting.specs.Shown.{Shown}

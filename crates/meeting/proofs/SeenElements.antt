@@ -4,9 +4,9 @@ use mathlib.Core.Path.{_≡_, refl, ap, sym, _∙_}
 use mathlib.Core.Option.{Option}
 use mathlib.Core.List.{List, _∷_, _++_}
 use Rattle.pktree.specs.Elements.{Forest, empty, pixel, blockAt, _⧺_, unlabelled}
-use Rattle.store.specs.declared.elements.Element.{Element}
-use Rattle.store.specs.declared.elements.Element.the-variants.{Pixel, Block}
-use Rattle.store.specs.Element.{elementAt}
+use Rattle.elements.specs.declared.Element.{Element}
+use Rattle.elements.specs.declared.Element.the-variants.{Pixel, Block}
+use Rattle.elements.specs.Element.{elementAt}
 use Rattle.store.specs.Placed.{Placed}
 use Rattle.store.proofs.PassedElements.{OneElement, is-pixel, is-block}
 use Rattle.searching.specs.Search.{pixelElements, nearestOf}

@@ -4,7 +4,7 @@ use mathlib.Core.Path.{_≡_}
 use mathlib.Core.List.{List, [], _∷_}
 use Rattle.pktree.specs.Elements.{unlabelled}
 use Rattle.pktree.specs.Tree.{BlockOf}
-use Rattle.store.specs.Element.{tagSlots}
+use Rattle.elements.specs.Element.{tagSlots}
 use Rattle.store.specs.Placed.{Placed}
 use Rattle.store.proofs.BlockView.{BlockView}
 use Rattle.searching.specs.Search.{distanceTo}

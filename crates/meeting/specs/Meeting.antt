@@ -9,9 +9,9 @@ use lib.ListN.{length}
 use Rattle.pktree.specs.Lists.{select, total}
 use Rattle.pktree.specs.Elements.{Forest, empty, unlabelled}
 use Rattle.pktree.specs.Tree.{blockOf}
-use Rattle.store.specs.declared.elements.Element.{Element}
-use Rattle.store.specs.declared.elements.Element.the-variants.{Pixel, Block}
-use Rattle.store.specs.Element.{tagSlots}
+use Rattle.elements.specs.declared.Element.{Element}
+use Rattle.elements.specs.declared.Element.the-variants.{Pixel, Block}
+use Rattle.elements.specs.Element.{tagSlots}
 use Rattle.store.specs.Placed.{Placed}
 use Rattle.searching.specs.Distance.{blockDistance}
 use Rattle.searching.specs.Search.{blockElements}

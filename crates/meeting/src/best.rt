@@ -5,8 +5,8 @@ ghost use Rattle.meeting.specs.Place.{OnGrid};
 ghost use Rattle.meeting.specs.Best.{AfterPixel, AfterElement, AfterElements};
 use crate::distance::Place;
 use crate::distance::pixel_distance;
-use store::elements::Element;
-use store::elements::element_at;
+use elements::Element;
+use elements::element_at;
 
 // More than any squared distance.
 pub const BEYOND: u64 = 8589934592;

@@ -1,16 +1,16 @@
 ghost use Prim.Native.Nat.{_+_, _≤_, _<_};
 ghost use lib.ListN.{length};
 ghost use Rattle.measures.specs.Slot.{elementIndex};
-ghost use Rattle.store.specs.Element.{tagSlots};
+ghost use Rattle.elements.specs.Element.{tagSlots};
 ghost use Rattle.frontier.specs.Entries.{Heap};
 ghost use Rattle.meeting.specs.Place.{OnGrid, beyond};
 ghost use Rattle.meeting.specs.Meeting.{KeyIs, TagIs, MetElement, MetBlocks};
 use crate::distance::Place;
 use crate::distance::block_distance;
+use elements::Element;
+use elements::TAG_SLOTS;
+use elements::element_at;
 use frontier::push;
-use store::elements::Element;
-use store::elements::TAG_SLOTS;
-use store::elements::element_at;
 
 // After some elements: the blocks met are now so many; or the words are damaged.
 pub enum Meeting {

@@ -12,8 +12,9 @@ use Rattle.measures.specs.Sizes.{sizesOf}
 use Rattle.store.specs.Sound.{Holds}
 use Rattle.frontier.specs.Entries.{entry, queued}
 use Rattle.meeting.specs.declared.distance.Place.{Place}
-use Rattle.nearest.specs.declared.search.Progress.{Progress}
-use Rattle.nearest.specs.UnderWay.{Reached, AtStart, UnderWay, EntriesCopied}
+use Rattle.bestfirst.specs.declared.Progress.{Progress}
+use Rattle.bestfirst.specs.UnderWay.{Reached, AtStart, UnderWay}
+use Rattle.nearest.specs.Copies.{EntriesCopied}
 
 pub copied-none : {keys tags before beforeTags : List ℕ} → EntriesCopied keys tags before beforeTags before beforeTags 0
 copied-none = record { keys-same = λ i h. absurd (omega arith); tags-same = λ i h. absurd (omega arith); keys-long = refl; tags-long = refl }

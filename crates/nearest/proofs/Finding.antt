@@ -25,10 +25,11 @@ use Rattle.answers.specs.declared.Refusal.the-variants.{StoreDamaged, NoBudget}
 use Rattle.answers.specs.Answer.{valuesOf, searchAnswer}
 use Rattle.meeting.specs.declared.distance.Place.{Place}
 use Rattle.meeting.specs.Place.{PlaceOf}
-use Rattle.nearest.specs.declared.search.Progress.{Progress}
-use Rattle.nearest.specs.declared.search.Searched.{Searched}
-use Rattle.nearest.specs.declared.search.Searched.the-variants.{Known, Full, Damaged}
-use Rattle.nearest.specs.Searches.{SearchMeets, SearchEnds, neverFull, answerOf}
+use Rattle.bestfirst.specs.declared.Progress.{Progress}
+use Rattle.bestfirst.specs.declared.Searched.{Searched}
+use Rattle.bestfirst.specs.declared.Searched.the-variants.{Known, Full, Damaged}
+use Rattle.bestfirst.specs.Searches.{SearchMeets}
+use Rattle.nearest.specs.Ends.{SearchEnds, neverFull, answerOf}
 
 abbrev Finds : List ℕ → ℕ → ℕ → Searching → Type 0
 Finds words code budget r = FindsNearest words code budget (effect (searchAnswer r) words words)

@@ -1,3 +1,2 @@
-pub mod Turns
-pub mod UnderWay
-pub mod Searches
+pub mod Copies
+pub mod Ends

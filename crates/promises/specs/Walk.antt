@@ -20,7 +20,7 @@ pub record Accepts (first second : ℕ) (e : Effect) : Type 0 where
   pub second-to : e .answer .second ≤ second
   pub no-further : e .answer .further ≡ none
 
--- 02, P8: accepted, with a block of the panel's levels and at most so many opened as there are levels above the pixels
+-- 02, P8: accepted, with no more blocks opened than the order, and no level above it
 pub record Locates (order : ℕ) (e : Effect) : Type 0 where
   pub accepted : e .answer .refusal ≡ 0
   pub marked-to : e .answer .first ≤ 1

@@ -16,8 +16,8 @@ use Rattle.measures.specs.Sizes.{largestMost}
 use Rattle.measures.specs.Layout.{LayoutFits, moreThanSlots, levelAboveRoot}
 use Rattle.measures.specs.Slot.{slotPart, numberWord}
 use Rattle.store.specs.Placed.{Placed}
-use Rattle.store.specs.declared.elements.Element.{Element}
-use Rattle.store.specs.declared.elements.Element.the-variants.{Block}
+use Rattle.elements.specs.declared.Element.{Element}
+use Rattle.elements.specs.declared.Element.the-variants.{Block}
 use Rattle.store.specs.declared.opening.Opening.{Opening}
 use Rattle.store.specs.declared.opening.Opening.the-variants.{Elements, Damaged}
 use Rattle.store.proofs.BlockView.{BlockView}

@@ -10,9 +10,9 @@ use Rattle.measures.specs.Words.{blocksWord}
 use Rattle.measures.specs.Slot.{slotPart, countWord, numberWord, countIndex}
 use Rattle.measures.proofs.SlotWrites.{SlotWritten}
 use Rattle.measures.proofs.Usable.{part-length}
-use Rattle.store.specs.FreeSlots.{Released}
-use Rattle.store.specs.Numbers.{numberOfElements}
-use Rattle.store.specs.Splice.{elementsIn, withHeader}
+use Rattle.freeslots.specs.FreeSlots.{Released}
+use Rattle.sums.specs.Sum.{numberOfElements}
+use Rattle.elements.specs.Splice.{elementsIn, withHeader}
 use Rattle.rewrite.specs.Rewrite.{CanHandUp, CanLayBeside, LaidBeside, HandedUpAll, HandedUpBlock, RunMoved, runWords}
 use Rattle.rewrite.proofs.Runs.{run-within, whole-within, run-copied, whole-run}
 use Rattle.rewrite.proofs.Moves.{moved-now, only-twice}

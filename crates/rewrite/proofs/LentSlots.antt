@@ -10,7 +10,7 @@ use Rattle.measures.specs.Layout.{LayoutFits, SlotOffset}
 use Rattle.measures.specs.Slot.{slotPart, slotHead}
 use Rattle.measures.proofs.SlotWrites.{SlotWritten, lent-part, slot-given-back}
 use Rattle.measures.proofs.Usable.{slot-within}
-use Rattle.store.specs.Splice.{Spliced, withHeader}
+use Rattle.elements.specs.Splice.{Spliced, withHeader}
 use Rattle.rewrite.specs.Rewrite.{SplicedSlot}
 
 module _ {layout : Layout} {words : List ℕ} {slot at : ℕ} (part : List ℕ) (fits : LayoutFits layout words) (below : slot < layout .slots) (o : SlotOffset layout slot at)

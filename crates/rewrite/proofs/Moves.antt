@@ -8,16 +8,16 @@ use lib.ListN.{length}
 use lib.Seq.{paste}
 use Rattle.measures.specs.Words.{firstFreeWord}
 use Rattle.measures.specs.declared.sizes.Layout.{Layout}
-use Rattle.store.specs.declared.free.FreeSlot.{FreeSlot}
-use Rattle.store.specs.declared.free.FreeSlot.the-variants.{Taken}
-use Rattle.store.specs.Element.{blockTag}
+use Rattle.freeslots.specs.declared.FreeSlot.{FreeSlot}
+use Rattle.freeslots.specs.declared.FreeSlot.the-variants.{Taken}
+use Rattle.elements.specs.Element.{blockTag}
 use Rattle.measures.specs.Layout.{LayoutFits, mostElements, mostSlots}
 use Rattle.measures.specs.Slot.{slotPart, countWord, numberWord, OnlySlot, elementIndex, slotHead}
-use Rattle.store.specs.Splice.{elementsIn, CanSplice, withHeader}
-use Rattle.store.specs.FreeSlots.{TookFree}
-use Rattle.store.specs.Numbers.{numberOfElements}
-use Rattle.store.proofs.FreeChains.{head-taken}
-use Rattle.store.proofs.ElementNumbers.{number-of-kept}
+use Rattle.elements.specs.Splice.{elementsIn, CanSplice, withHeader}
+use Rattle.freeslots.specs.FreeSlots.{TookFree}
+use Rattle.sums.specs.Sum.{numberOfElements}
+use Rattle.freeslots.proofs.FreeChains.{head-taken}
+use Rattle.sums.proofs.ElementNumbers.{number-of-kept}
 use Rattle.measures.proofs.SlotWrites.{SlotWritten}
 use Rattle.measures.proofs.Usable.{slot-long}
 use Rattle.rewrite.specs.Rewrite.{CanCut, RunWithin, SlotNow, SplicedSlot, RunMoved, BlockFormed, blockWords, runWords}

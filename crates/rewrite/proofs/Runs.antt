@@ -9,11 +9,11 @@ use lib.Seq.{paste, length-paste, take-paste, drop-drop, take-take, take-all, ta
 use Rattle.measures.specs.declared.sizes.Layout.{Layout}
 use Rattle.measures.specs.Layout.{LayoutFits, mostElementWords}
 use Rattle.measures.specs.Slot.{slotPart, countWord, elementIndex, slotHead}
-use Rattle.store.specs.Element.{blockTag}
-use Rattle.store.specs.Splice.{elementsIn}
-use Rattle.store.specs.Numbers.{numberOfElements}
-use Rattle.store.proofs.ElementNumbers.{number-of-front}
-use Rattle.store.proofs.Splices.{take-paste-front}
+use Rattle.elements.specs.Element.{blockTag}
+use Rattle.elements.specs.Splice.{elementsIn}
+use Rattle.sums.specs.Sum.{numberOfElements}
+use Rattle.sums.proofs.ElementNumbers.{number-of-front}
+use Rattle.elements.proofs.Splices.{take-paste-front}
 use Rattle.measures.proofs.SlotWrites.{SlotWritten, drop-take}
 use Rattle.measures.proofs.Usable.{slot-long}
 use Rattle.rewrite.specs.Rewrite.{RunWithin, RunMoved, CanCut, CanLayBeside, LaidBeside, runWords, withBlock}

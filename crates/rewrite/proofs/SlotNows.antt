@@ -7,7 +7,7 @@ use lib.ListN.{length, getD, take, drop, set, length-drop, List·getD-append}
 use lib.Seq.{paste, length-paste, take-at, drop-at, length-take-le, getD-take, getD-set-same, getD-set-other, drop-set-lt}
 use Rattle.pktree.specs.Elements.{size}
 use Rattle.measures.specs.Slot.{levelWord, codeWord, countWord, numberWord, elementIndex, levelIndex, codeIndex, countIndex, numberIndex, slotHead}
-use Rattle.store.specs.Splice.{elementsIn, CanSplice, Spliced, withHeader}
+use Rattle.elements.specs.Splice.{elementsIn, CanSplice, Spliced, withHeader}
 use Rattle.store.specs.Placed.{Placed}
 use Rattle.store.proofs.Standing.{elementWords, SlotSays}
 use Rattle.store.proofs.PlacedJoin.{length-element-words}

@@ -4,15 +4,15 @@ use mathlib.Core.Path.{_≡_}
 use mathlib.Core.List.{List, [], _∷_, _++_}
 use lib.ListN.{length, take, drop}
 use lib.Seq.{paste}
-use Rattle.store.specs.Element.{blockTag}
+use Rattle.elements.specs.Element.{blockTag}
 use Rattle.measures.specs.Words.{headWords, blocksWord, firstFreeWord}
 use Rattle.measures.specs.declared.sizes.Layout.{Layout}
 use Rattle.measures.specs.Layout.{LayoutFits, mostSlots}
 use Rattle.measures.specs.Slot.{slotPart, levelWord, codeWord, countWord, numberWord, OnlySlot, elementIndex, slotHead}
-use Rattle.store.specs.Splice.{elementsIn, Spliced}
-use Rattle.store.specs.FreeSlots.{Released}
-use Rattle.store.specs.Numbers.{numberOfElements}
-use Rattle.store.proofs.FreeChains.{headTaken}
+use Rattle.elements.specs.Splice.{elementsIn, Spliced}
+use Rattle.freeslots.specs.FreeSlots.{Released}
+use Rattle.sums.specs.Sum.{numberOfElements}
+use Rattle.freeslots.proofs.FreeChains.{headTaken}
 use Rattle.measures.proofs.SlotWrites.{SlotWritten}
 use Rattle.rewrite.specs.declared.Forming.{Forming}
 use Rattle.rewrite.specs.declared.Forming.the-variants.{Formed, NoSlot}

@@ -5,10 +5,17 @@ ghost use lib.ListN.{length};
 ghost use lib.Seq.{paste};
 ghost use Rattle.measures.specs.Layout.{LayoutFits, mostElements};
 ghost use Rattle.measures.specs.Slot.{slotPart, elementIndex, slotHead};
-ghost use Rattle.store.specs.Numbers.{numberOfElements};
-ghost use Rattle.store.specs.Splice.{elementsIn, CanSplice, withHeader};
+ghost use Rattle.sums.specs.Sum.{numberOfElements};
+ghost use Rattle.elements.specs.Splice.{elementsIn, CanSplice, withHeader};
 ghost use Rattle.measures.proofs.SlotWrites.{SlotWritten};
 ghost use Rattle.rewrite.specs.Rewrite.{RunWithin, CanCut, CanLayBeside, CanHandUp, runWords, SplicedSlot, RunMoved, LaidBeside, FormMeets, HandedUpBlock, HandedUpAll};
+use elements::block_tag;
+use elements::copy_words;
+use elements::splice;
+use elements::write_header;
+use freeslots::FreeSlot;
+use freeslots::release;
+use freeslots::take_free;
 use measures::sizes::Layout;
 use measures::slots::COUNT;
 use measures::slots::MOST_ELEMENT_WORDS;
@@ -17,14 +24,7 @@ use measures::slots::offset;
 use measures::slots::slot_part;
 use measures::slots::wide;
 use measures::words::BLOCKS;
-use store::elements::block_tag;
-use store::elements::copy_words;
-use store::elements::splice;
-use store::elements::write_header;
-use store::free::FreeSlot;
-use store::free::release;
-use store::free::take_free;
-use store::sums::number_of_elements;
+use sums::number_of_elements;
 
 // The elements of a slot written anew; its header is left to `head_slot`.
 fn lay_elements(store: &mut [u32], layout: Layout, slot: usize, source: &[u32], count: usize)

@@ -10,7 +10,7 @@ use borrow.Author.Tests.{eq-eqb, ne-eqb}
 use Rattle.morton.specs.CommonLevel.{CommonLevel}
 use Rattle.morton.proofs.Blocks.{block-up}
 use Rattle.pktree.proofs.Alignment.{pow-pos}
-use Rattle.store.specs.Splice.{codeAt, PlaceOf}
+use Rattle.elements.specs.Splice.{codeAt, PlaceOf}
 use Rattle.runs.specs.Run.{Near, codesFrom, countNear, AscendingCodes, LevelBefore, LevelAt, ReachedLeft, ReachedRight, IsRun}
 
 -- all from left' up to right' are near, where x is and so are those from left up to right

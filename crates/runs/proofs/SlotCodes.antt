@@ -12,7 +12,7 @@ use Rattle.pktree.specs.Elements.{ForestOf, empty, pixel, _⧺_, size, blockAt}
 use Rattle.pktree.proofs.Alignment.{pow-pos}
 use Rattle.pktree.proofs.Counting.{indicator, countIn}
 use Rattle.pktree.proofs.Arranged.{Arranged, arranged-le}
-use Rattle.store.specs.Splice.{codeAt}
+use Rattle.elements.specs.Splice.{codeAt}
 use Rattle.store.specs.Placed.{Placed}
 use Rattle.store.proofs.Standing.{elementWords, SlotSays}
 use Rattle.store.proofs.BlockView.{element-word}

@@ -6,7 +6,7 @@ use lib.Dec.{eqb}
 use lib.ListN.{length}
 use Rattle.pktree.specs.Lists.{select}
 use Rattle.morton.specs.CommonLevel.{CommonLevel}
-use Rattle.store.specs.Splice.{codeAt}
+use Rattle.elements.specs.Splice.{codeAt}
 use Rattle.runs.specs.declared.RunFound.{RunFound}
 use Rattle.runs.specs.declared.RunFound.the-variants.{Formed, Nothing}
 use Rattle.measures.specs.Layout.{mostElements, levelAboveRoot}

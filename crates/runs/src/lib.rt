@@ -1,11 +1,11 @@
 // Where a block is to be formed: the run of elements that it takes. It only reads.
 ghost use Prim.Native.Nat.{_≤_};
-ghost use Rattle.store.specs.Splice.{PlaceOf};
+ghost use Rattle.elements.specs.Splice.{PlaceOf};
 ghost use Rattle.runs.specs.Run.{ElementsLaid, LevelAt, LevelBefore, ReachedLeft, ReachedRight, RunMeets};
+use elements::find_place;
 use measures::slots::ELEMENT_BEFORE;
 use measures::slots::LEVEL_ABOVE_ROOT;
 use measures::slots::SLOT_HEAD;
-use store::elements::find_place;
 
 // The elements that a new block is to take, where one is to be formed.
 pub enum RunFound {

@@ -21,17 +21,17 @@ use Rattle.measures.specs.Sizes.{panelOf, sizesOf, slotCount, slotWidth, Usable
 use Rattle.measures.specs.Layout.{layoutOf}
 use Rattle.measures.specs.Slot.{slotPart}
 use Rattle.store.specs.Placed.{Placed, slotsOf}
-use Rattle.store.specs.FreeSlots.{noSlot}
+use Rattle.freeslots.specs.FreeSlots.{noSlot}
 use Rattle.store.specs.Sound.{Sound, SlotsShared, IsSound}
 use Rattle.store.specs.Numbers.{NumberRight}
 use Rattle.measures.proofs.Bounds.{slot-count-bounded}
-use Rattle.store.proofs.FreeChains.{one-chain}
+use Rattle.freeslots.proofs.FreeChains.{one-chain}
 use Rattle.store.proofs.BlockNumbers.{OwnPixels, own-whole, block-right, tree-right, numbered-by-used}
 use Rattle.store.proofs.Standing.{depth, complete-slot, depth-below-level, every-right, every-join}
 use Rattle.inspection.specs.Chain.{ChainOf, ChainEnds, NoEnd}
-use Rattle.soundness.specs.declared.walk.Seen.{Seen}
-use Rattle.soundness.specs.Walk.{BlockWalked, NoneClaimed}
-use Rattle.soundness.proofs.OneReading.{one-reading}
+use Rattle.traversal.specs.declared.Seen.{Seen}
+use Rattle.traversal.specs.Walk.{BlockWalked, NoneClaimed}
+use Rattle.traversal.proofs.OneReading.{one-reading}
 use Rattle.store.proofs.SlotTotals.{shared-length, shared-of-length}
 use Rattle.store.proofs.PlacedJoin.{slots-are-blocks}
 use Rattle.soundness.proofs.RootSlots.{root-slots-once}

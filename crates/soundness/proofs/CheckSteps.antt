@@ -13,10 +13,10 @@ use Rattle.measures.specs.Layout.{layoutOf, LaidOut}
 use Rattle.inspection.specs.declared.chain.Chain.{Chain}
 use Rattle.inspection.specs.declared.chain.Chain.the-variants.{Ends, Broken}
 use Rattle.inspection.specs.Chain.{ChainEnds, NoEnd, ChainMeets}
-use Rattle.soundness.specs.declared.walk.Seen.{Seen}
-use Rattle.soundness.specs.declared.walk.Walked.{Walked}
-use Rattle.soundness.specs.declared.walk.Walked.the-variants.{Whole, Unsound}
-use Rattle.soundness.specs.Walk.{NoneClaimed, BlockWalked, WalkMeets}
+use Rattle.traversal.specs.declared.Seen.{Seen}
+use Rattle.traversal.specs.declared.Walked.{Walked}
+use Rattle.traversal.specs.declared.Walked.the-variants.{Whole, Unsound}
+use Rattle.traversal.specs.Walk.{NoneClaimed, BlockWalked, WalkMeets}
 use Rattle.soundness.proofs.RootWalks.{limitsOf, rootClaim, noneSeen, rootLimits, of-words, slots-of-words}
 use Rattle.soundness.proofs.CheckAnswers.{root-stands, chain-stands, numbers-agree, decided-by-counts}
 use Rattle.store.specs.Sound.{IsSound}

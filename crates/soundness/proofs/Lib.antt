@@ -1,12 +1,3 @@
-pub mod ElementNames
-pub mod OneReading
-pub mod RightParts
-pub mod SeenParts
-pub mod BlockOpening
-pub mod WalkedTo
-pub mod WalkRefusals
-pub mod BlockWalks
-pub mod ElementWalks
 pub mod SlotsOnce
 pub mod RootSlots
 pub mod RootWalks

@@ -9,9 +9,9 @@ use Rattle.pktree.specs.Lists.{Every}
 use Rattle.pktree.proofs.Arranged.{Arranged}
 use Rattle.measures.specs.Slot.{slotPart, levelWord}
 use Rattle.store.specs.Placed.{Placed, slotsOf}
-use Rattle.store.specs.FreeSlots.{noSlot, FreeChain, occurrences}
+use Rattle.freeslots.specs.FreeSlots.{noSlot, FreeChain, occurrences}
 use Rattle.store.proofs.Standing.{SlotSays, Stands}
-use Rattle.store.proofs.FreeChains.{occurrences-same, occurrences-other, occurrences-join}
+use Rattle.freeslots.proofs.FreeChains.{occurrences-same, occurrences-other, occurrences-join}
 use Rattle.store.proofs.BlockNumbers.{chain-levels}
 use Rattle.store.proofs.SlotTotals.{every-occurs}
 use Rattle.soundness.proofs.SlotsOnce.{tree-slot-level, tree-slots-once, chain-once}

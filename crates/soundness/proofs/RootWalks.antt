@@ -18,10 +18,10 @@ use Rattle.store.specs.Placed.{Placed}
 use Rattle.store.specs.Sound.{Sound}
 use Rattle.store.proofs.SoundView.{sound-view}
 use Rattle.store.proofs.BlockView.{root-view}
-use Rattle.soundness.specs.declared.walk.Claim.{Claim}
-use Rattle.soundness.specs.declared.walk.Limits.{Limits}
-use Rattle.soundness.specs.declared.walk.Seen.{Seen}
-use Rattle.soundness.specs.Walk.{CanWalk, WithinLimits, seenWith, claimed, BlockAt}
+use Rattle.traversal.specs.declared.Claim.{Claim}
+use Rattle.traversal.specs.declared.Limits.{Limits}
+use Rattle.traversal.specs.declared.Seen.{Seen}
+use Rattle.traversal.specs.Walk.{CanWalk, WithinLimits, seenWith, claimed, BlockAt}
 
 -- as the code makes them
 abbrev pub limitsOf : Layout → Sizes → Limits

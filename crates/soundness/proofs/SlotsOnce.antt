@@ -10,9 +10,9 @@ use Rattle.pktree.proofs.Alignment.{pow-pos}
 use Rattle.pktree.proofs.Arranged.{Arranged, arranged-le}
 use Rattle.measures.specs.Slot.{slotPart, levelWord, codeWord, nextWord}
 use Rattle.store.specs.Placed.{Placed, slotsOf}
-use Rattle.store.specs.FreeSlots.{noSlot, FreeChain, occurrences}
+use Rattle.freeslots.specs.FreeSlots.{noSlot, FreeChain, occurrences}
 use Rattle.store.proofs.Standing.{Stands, every-join}
-use Rattle.store.proofs.FreeChains.{every-map, first-once, occurrences-same, occurrences-other, occurrences-join}
+use Rattle.freeslots.proofs.FreeChains.{every-map, first-once, occurrences-same, occurrences-other, occurrences-join}
 use Rattle.store.proofs.SlotTotals.{every-occurs}
 
 module _ (width : ℕ) (words : List ℕ) where

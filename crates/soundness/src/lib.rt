@@ -3,19 +3,17 @@ ghost use mathlib.Core.Path.{_≡_};
 ghost use Rattle.measures.specs.Decides.{Decides};
 ghost use Rattle.measures.specs.Sizes.{UsableStore, sizesOf};
 ghost use Rattle.store.specs.Sound.{IsSound};
-use crate::walk::Claim;
-use crate::walk::Limits;
-use crate::walk::Seen;
-use crate::walk::Walked;
-use crate::walk::walk_block;
 use inspection::chain::Chain;
 use inspection::chain::count_free;
 use measures::sizes::Sizes;
 use measures::sizes::layout_of;
 use measures::slots::wide;
 use measures::words::BLOCKS;
-
-mod walk;
+use traversal::Claim;
+use traversal::Limits;
+use traversal::Seen;
+use traversal::Walked;
+use traversal::walk_block;
 
 // 01's check, where refusal 3 does not apply: is the store sound?
 pub fn is_sound(store: &[u32], sizes: Sizes) -> bool

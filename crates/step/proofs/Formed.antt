@@ -3,19 +3,19 @@ use Prim.Native.Nat.{ℕ, suc, _+_, _<_}
 use native.Mathlib.Omega.{arith}
 use mathlib.Core.Path.{_≡_, ap, subst, sym, _∙_}
 use mathlib.Core.List.{List, [], _∷_, _++_}
-use Rattle.store.specs.Element.{tagSlots}
+use Rattle.elements.specs.Element.{tagSlots}
 use Rattle.pktree.specs.Lists.{Every}
 use Rattle.pktree.specs.Elements.{_⧺_, size, blockAt}
 use Rattle.pktree.specs.Tree.{pixels}
 use Rattle.pktree.proofs.Forests.{size-join, pixels-join, blockCount, blockCount-join}
 use Rattle.pktree.proofs.Alignment.{blockCode}
 use Rattle.measures.specs.Slot.{slotPart}
-use Rattle.store.specs.Splice.{elementsIn}
+use Rattle.elements.specs.Splice.{elementsIn}
 use Rattle.store.specs.Placed.{Placed, slotsOf}
-use Rattle.store.specs.FreeSlots.{occurrences}
+use Rattle.freeslots.specs.FreeSlots.{occurrences}
 use Rattle.store.proofs.Standing.{elementWords, SlotSays, Stands, frame, every-left, every-right}
 use Rattle.store.proofs.PlacedJoin.{slots-join, stands-join, stands-parts}
-use Rattle.store.proofs.FreeChains.{occurrences-join}
+use Rattle.freeslots.proofs.FreeChains.{occurrences-join}
 use Rattle.rewrite.specs.Rewrite.{blockWords, runWords, withBlock}
 use Rattle.rewrite.proofs.SlotNows.{says-now}
 use Rattle.ascent.proofs.FormedAt.{FormedAt, pixels-in-parts, slots-in-parts}

@@ -11,11 +11,11 @@ use Rattle.pktree.proofs.Alignment.{blockCode}
 use Rattle.measures.specs.Slot.{slotPart}
 use Rattle.measures.specs.Layout.{LayoutFits}
 use Rattle.store.specs.Placed.{Placed, slotsOf}
-use Rattle.store.specs.declared.free.FreeSlot.the-variants.{Missing}
-use Rattle.store.specs.FreeSlots.{occurrences, TookFree}
+use Rattle.freeslots.specs.declared.FreeSlot.the-variants.{Missing}
+use Rattle.freeslots.specs.FreeSlots.{occurrences, TookFree}
 use Rattle.store.proofs.Standing.{every-right}
 use Rattle.measures.proofs.SlotWrites.{HeadWritten}
-use Rattle.store.proofs.FreeChains.{absent, every-map, headTaken, none-free, occurrences-join, occurrences-same}
+use Rattle.freeslots.proofs.FreeChains.{absent, every-map, headTaken, none-free, occurrences-join, occurrences-same}
 use Rattle.store.proofs.SlotsLeft.{SlotsLeft, left-kept, left-taken}
 use Rattle.descent.specs.Way.{Frame}
 use Rattle.rewrite.specs.Rewrite.{SlotNow, BlockFormed}

@@ -9,7 +9,7 @@ use Rattle.pktree.specs.Elements.{_⧺_, size}
 use Rattle.pktree.proofs.Forests.{size-join}
 use Rattle.pktree.proofs.Arranged.{quarterLevel, LocallyRight}
 use Rattle.measures.specs.Slot.{slotPart}
-use Rattle.store.specs.Splice.{CanSplice}
+use Rattle.elements.specs.Splice.{CanSplice}
 use Rattle.measures.specs.Layout.{LayoutFits}
 use Rattle.store.specs.Placed.{Placed}
 use Rattle.store.proofs.Standing.{elementWords, SlotSays}

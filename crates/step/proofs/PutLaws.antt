@@ -7,7 +7,7 @@ use lib.ListN.{length, getD}
 use Rattle.measures.specs.declared.sizes.Layout.{Layout}
 use Rattle.measures.specs.Layout.{LayoutFits, SlotOffset}
 use Rattle.measures.specs.Slot.{slotPart, countWord}
-use Rattle.store.specs.Splice.{CanSplice}
+use Rattle.elements.specs.Splice.{CanSplice}
 use Rattle.measures.proofs.SlotWrites.{slot-word}
 use Rattle.measures.proofs.Usable.{slot-long}
 

@@ -6,7 +6,7 @@ use mathlib.Core.Logic.{_⊎_, inl, inr}
 use mathlib.Core.List.{List, [], _∷_}
 use lib.ListN.{take, set}
 use lib.Seq.{take-set-le, take-take}
-use Rattle.store.specs.Element.{tagSlots}
+use Rattle.elements.specs.Element.{tagSlots}
 use Rattle.pktree.specs.Elements.{size}
 use Rattle.pktree.proofs.Alignment.{blockCode}
 use Rattle.pktree.proofs.Absurd.{zero-is-not-one}

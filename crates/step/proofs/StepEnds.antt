@@ -12,8 +12,8 @@ use Rattle.pktree.proofs.Arranged.{LocallyRight}
 use Rattle.measures.specs.declared.sizes.Layout.{Layout}
 use Rattle.measures.specs.Layout.{LayoutFits, storeEnd}
 use Rattle.measures.specs.Slot.{slotPart, levelWord, countWord, elementIndex}
-use Rattle.store.specs.Splice.{CanSplice}
-use Rattle.store.specs.FreeSlots.{Released}
+use Rattle.elements.specs.Splice.{CanSplice}
+use Rattle.freeslots.specs.FreeSlots.{Released}
 use Rattle.store.specs.Placed.{Placed}
 use Rattle.measures.proofs.Usable.{slot-long}
 use Rattle.descent.specs.Way.{Frame}

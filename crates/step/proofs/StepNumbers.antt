@@ -6,10 +6,11 @@ use mathlib.Core.Path.{_≡_, ap, ap₂, subst, sym, _∙_}
 use mathlib.Core.List.{List}
 use Rattle.pktree.proofs.Alignment.{blockCode}
 use Rattle.measures.specs.Slot.{slotPart, levelWord}
-use Rattle.store.specs.Splice.{elementsIn, CanSplice}
-use Rattle.store.specs.FreeSlots.{Released}
+use Rattle.elements.specs.Splice.{elementsIn, CanSplice}
+use Rattle.freeslots.specs.FreeSlots.{Released}
 use Rattle.store.specs.Placed.{Placed}
-use Rattle.store.specs.Numbers.{numberIn, NumberRight, Numbered, numberOfElements}
+use Rattle.store.specs.Numbers.{numberIn, NumberRight, Numbered}
+use Rattle.sums.specs.Sum.{numberOfElements}
 use Rattle.store.proofs.BlockNumbers.{number-right-kept, numbered-but-slot}
 use Rattle.descent.specs.Way.{Frame}
 use Rattle.rewrite.specs.Rewrite.{SplicedSlot, BlockFormed, HandedUpBlock, runWords}

@@ -4,7 +4,7 @@ use native.Mathlib.Omega.{arith}
 use mathlib.Core.Path.{_≡_, refl, ap, subst, sym, _∙_}
 use mathlib.Core.Logic.{_⊎_, inl, inr}
 use mathlib.Core.List.{List, [], _∷_}
-use Rattle.store.specs.Element.{tagSlots}
+use Rattle.elements.specs.Element.{tagSlots}
 use Rattle.pktree.specs.Elements.{size}
 use Rattle.pktree.proofs.Alignment.{blockCode}
 use Rattle.pktree.proofs.Arranged.{LocallyRight}
@@ -12,7 +12,7 @@ use Rattle.measures.specs.Layout.{LayoutFits}
 use Rattle.measures.specs.Slot.{slotPart}
 use Rattle.store.specs.Placed.{Placed, slotsOf}
 use Rattle.store.proofs.Standing.{SlotSays, frame}
-use Rattle.store.proofs.FreeChains.{occurrences-join}
+use Rattle.freeslots.proofs.FreeChains.{occurrences-join}
 use Rattle.store.proofs.SlotsLeft.{left-kept, left-released}
 use Rattle.descent.specs.Way.{Frame}
 use Rattle.rewrite.specs.Rewrite.{SlotNow, HandedUpBlock, HandedUpAll}

@@ -9,7 +9,7 @@ use Rattle.pktree.specs.Elements.{size, blockAt, empty}
 use Rattle.measures.specs.declared.sizes.Layout.{Layout}
 use Rattle.measures.specs.Layout.{LayoutFits, storeEnd, mostElements}
 use Rattle.measures.specs.Slot.{slotPart, countWord, elementIndex}
-use Rattle.store.specs.Splice.{CanSplice}
+use Rattle.elements.specs.Splice.{CanSplice}
 use Rattle.store.specs.Placed.{Placed}
 use Rattle.store.proofs.Standing.{elementWords}
 use Rattle.descent.specs.Way.{Frame}

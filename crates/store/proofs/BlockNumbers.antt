@@ -10,12 +10,12 @@ use Rattle.pktree.specs.Elements.{empty, pixel, blockAt, _⧺_}
 use Rattle.pktree.specs.Tree.{pixels}
 use Rattle.pktree.proofs.Arranged.{Arranged, arranged-le}
 use Rattle.measures.specs.Slot.{slotPart, levelWord, codeWord, nextWord, numberWord}
-use Rattle.store.specs.FreeSlots.{FreeChain, FreeSlots, occurrences}
+use Rattle.freeslots.specs.FreeSlots.{FreeChain, FreeSlots, occurrences}
 use Rattle.store.specs.Sound.{SlotsShared}
 use Rattle.store.specs.Placed.{Placed, slotsOf}
 use Rattle.store.specs.Numbers.{numberBetween, numberIn, NumberRight, Numbered}
 use Rattle.store.proofs.Standing.{SlotSays, Stands, every-left, every-right, every-join}
-use Rattle.store.proofs.FreeChains.{occurrences-join}
+use Rattle.freeslots.proofs.FreeChains.{occurrences-join}
 use Rattle.store.proofs.SlotTotals.{every-occurs}
 use Rattle.store.proofs.NumbersBetween.{number-below, number-join, none-below, none-above, all-inside}
 

@@ -13,10 +13,10 @@ use Rattle.pktree.specs.Tree.{pixels}
 use Rattle.pktree.proofs.Alignment.{aligned-root}
 use Rattle.pktree.proofs.Arranged.{Arranged, LocallyRight, arranged-le}
 use Rattle.pktree.proofs.Forests.{size-join}
-use Rattle.store.specs.declared.elements.Element.the-variants.{Pixel, Block}
+use Rattle.elements.specs.declared.Element.the-variants.{Pixel, Block}
 use Rattle.measures.specs.Sizes.{slotCount, slotWidth, sizesOf}
 use Rattle.measures.specs.Slot.{slotPart, elementPart, elementIndex, slotHead, numberWord}
-use Rattle.store.specs.Element.{elementOf, elementAt, tagSlots}
+use Rattle.elements.specs.Element.{elementOf, elementAt, tagSlots}
 use Rattle.store.specs.Placed.{Placed, slotsOf}
 use Rattle.store.specs.Numbers.{Numbered}
 use Rattle.store.specs.Sound.{Sound}

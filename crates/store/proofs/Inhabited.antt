@@ -9,10 +9,10 @@ use Rattle.pktree.specs.Elements.{gather, blockAt, empty, pixel}
 use Rattle.measures.specs.Slot.{slotPart}
 use Rattle.store.specs.Placed.{Placed}
 use Rattle.store.specs.Reading.{readSlot}
-use Rattle.store.specs.FreeSlots.{FreeSlots}
+use Rattle.freeslots.specs.FreeSlots.{FreeSlots}
 use Rattle.store.specs.Sound.{SlotsShared, Sound, Holds}
 use Rattle.store.proofs.BlockNumbers.{numbered-by-used}
-use Rattle.store.proofs.FreedSlots.{numbers-once, numbers-inside}
+use Rattle.freeslots.proofs.FreedSlots.{numbers-once, numbers-inside}
 
 -- a free slot
 abbrev freeSlot : ℕ → List ℕ

@@ -1,16 +1,12 @@
-pub mod Splices
 pub mod Standing
 pub mod PlacedJoin
 pub mod SoundView
 pub mod NumbersBetween
 pub mod BlockNumbers
 pub mod SlotTotals
-pub mod ElementNumbers
 pub mod SlotsLeft
 pub mod Held
 pub mod BlockView
 pub mod OpenedSlot
 pub mod PassedElements
-pub mod FreeChains
-pub mod FreedSlots
 pub mod Inhabited

@@ -6,9 +6,9 @@ use mathlib.Core.List.{List}
 use Rattle.pktree.specs.Elements.{Forest, _⧺_, size, blockAt, empty, pixel, unlabelled}
 use Rattle.pktree.proofs.Forests.{join-assoc, join-empty, size-join}
 use Rattle.measures.specs.Slot.{slotPart}
-use Rattle.store.specs.declared.elements.Element.{Element}
-use Rattle.store.specs.declared.elements.Element.the-variants.{Pixel, Block}
-use Rattle.store.specs.Element.{elementAt}
+use Rattle.elements.specs.declared.Element.{Element}
+use Rattle.elements.specs.declared.Element.the-variants.{Pixel, Block}
+use Rattle.elements.specs.Element.{elementAt}
 use Rattle.store.specs.Placed.{Placed}
 use Rattle.store.proofs.BlockView.{BlockView, ChildView, element-pixel, element-block, child-view}
 use Rattle.store.proofs.OpenedSlot.{SlotOpened}

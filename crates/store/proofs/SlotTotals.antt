@@ -6,9 +6,9 @@ use mathlib.Core.Path.{_≡_, refl, subst}
 use mathlib.Core.List.{List, [], _∷_, _++_}
 use lib.ListN.{length, length-append}
 use Rattle.pktree.specs.Lists.{Every}
-use Rattle.store.specs.FreeSlots.{occurrences}
+use Rattle.freeslots.specs.FreeSlots.{occurrences}
 use Rattle.store.specs.Sound.{SlotsShared}
-use Rattle.store.proofs.FreeChains.{occurrences-same, occurrences-other}
+use Rattle.freeslots.proofs.FreeChains.{occurrences-same, occurrences-other}
 
 -- a slot that is in a list has what every slot there has
 pub every-occurs : (P : ℕ → Type 0) (s : ℕ) (l : List ℕ) → Every P l → 1 ≤ occurrences s l → P s

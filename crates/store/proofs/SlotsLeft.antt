@@ -11,10 +11,10 @@ use Rattle.measures.specs.declared.sizes.Layout.{Layout}
 use Rattle.measures.specs.Layout.{LayoutFits}
 use Rattle.measures.specs.Slot.{slotPart}
 use Rattle.measures.proofs.SlotWrites.{HeadWritten, word-in-front}
-use Rattle.store.specs.declared.free.FreeSlot.the-variants.{Taken}
-use Rattle.store.specs.FreeSlots.{FreeSlots, occurrences, TookFree, Released}
+use Rattle.freeslots.specs.declared.FreeSlot.the-variants.{Taken}
+use Rattle.freeslots.specs.FreeSlots.{FreeSlots, occurrences, TookFree, Released}
 use Rattle.store.specs.Sound.{SlotsShared}
-use Rattle.store.proofs.FreeChains.{free-kept, headTaken, first-taken, chain-released}
+use Rattle.freeslots.proofs.FreeChains.{free-kept, headTaken, first-taken, chain-released}
 use Rattle.store.proofs.SlotTotals.{shared-length}
 
 pub record SlotsLeft (width slots : ℕ) (words free : List ℕ) : Type 0 where

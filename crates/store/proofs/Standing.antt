@@ -10,7 +10,7 @@ use mathlib.Core.List.{List, [], _∷_, _++_}
 use lib.Dec.{eqb}
 use lib.ListN.{take, drop, take-append-drop}
 use borrow.Author.Tests.{eq-eqb, eqb-true}
-use Rattle.store.specs.Element.{blockTag, tagLevel, tagSlot, tagSlots}
+use Rattle.elements.specs.Element.{blockTag, tagLevel, tagSlot, tagSlots}
 use Rattle.pktree.specs.Lists.{Every}
 use Rattle.pktree.specs.Elements.{ForestOf, empty, pixel, size, blockAt}
 use Rattle.pktree.proofs.Arranged.{Arranged}

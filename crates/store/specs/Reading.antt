@@ -5,7 +5,7 @@ use mathlib.Core.Bool.{_&&_, cond}
 use mathlib.Core.Option.{Option, none, some}
 use mathlib.Core.List.{List, [], _∷_}
 use lib.Dec.{eqb}
-use Rattle.store.specs.Element.{tagLevel, tagSlot}
+use Rattle.elements.specs.Element.{tagLevel, tagSlot}
 use Rattle.pktree.specs.Elements.{blockAt, empty, pixel}
 use Rattle.measures.specs.Sizes.{slotWidth, sizesOf}
 use Rattle.measures.specs.Slot.{slotPart, levelWord, codeWord, countWord, elementPart}

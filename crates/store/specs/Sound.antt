@@ -11,7 +11,7 @@ use Rattle.measures.specs.Words.{blocksWord}
 use Rattle.measures.specs.Sizes.{panelOf, slotCount, slotWidth, sizesOf, UsableStore}
 use Rattle.store.specs.Placed.{Placed, slotsOf}
 use Rattle.store.specs.Reading.{treeOf}
-use Rattle.store.specs.FreeSlots.{FreeSlots, occurrences}
+use Rattle.freeslots.specs.FreeSlots.{FreeSlots, occurrences}
 use Rattle.store.specs.Numbers.{Numbered}
 use Rattle.pktree.specs.Elements.{unlabelled}
 

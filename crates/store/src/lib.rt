@@ -1,5 +1,2 @@
-// The lent store of 01: the elements in its slots, and the slots that are free.
-pub mod elements;
-pub mod free;
+// The lent store of 01: what its words say, and a block opened.
 pub mod opening;
-pub mod sums;

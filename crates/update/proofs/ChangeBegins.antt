@@ -19,12 +19,12 @@ use Rattle.measures.specs.Sizes.{slotWidth, slotCount, sizesOf, UsableStore}
 use Rattle.measures.specs.Layout.{layoutOf}
 use Rattle.measures.specs.Slot.{slotPart}
 use Rattle.store.specs.Placed.{Placed, slotsOf}
-use Rattle.store.specs.FreeSlots.{occurrences}
+use Rattle.freeslots.specs.FreeSlots.{occurrences}
 use Rattle.store.specs.Numbers.{numberBetween}
 use Rattle.store.specs.Sound.{SlotsShared, Sound}
 use Rattle.store.proofs.Standing.{elementWords, SlotSays, Stands}
 use Rattle.store.proofs.PlacedJoin.{slots-join, stands-join, stands-parts}
-use Rattle.store.proofs.FreeChains.{occurrences-join}
+use Rattle.freeslots.proofs.FreeChains.{occurrences-join}
 use Rattle.store.proofs.NumbersBetween.{number-inside, number-below, number-above, number-join}
 use Rattle.store.proofs.SlotsLeft.{slots-left}
 use Rattle.descent.specs.declared.Located.{Located}
@@ -37,7 +37,7 @@ use Rattle.ascent.proofs.HandUp.{right-size}
 use Rattle.ascent.proofs.Pending.{Setting}
 use Rattle.propagate.specs.Propagate.{PendingAt}
 use Rattle.update.specs.Changed.{OnePixel, comes, goes, CountAllows}
-use Rattle.update.specs.Renumber.{pathSlots, PathRenumbered}
+use Rattle.renumbering.specs.Renumber.{pathSlots, PathRenumbered}
 use Rattle.update.proofs.SameBlocks.{says-same, stands-same, frames-same, left-same}
 use Rattle.update.proofs.PathNumbers.{frameSlots, path-is, PixelChange, path-numbered}
 

@@ -37,9 +37,9 @@ use Rattle.step.proofs.StepEnds.{kept-then}
 use Rattle.step.specs.Step.{Kept}
 use Rattle.update.specs.declared.marks.Changing.the-variants as changing
 use Rattle.update.specs.Changed.{OnePixel, comes, goes, exchanged, CanChange, ChangeMeets}
-use Rattle.update.specs.Renumber.{pathSlots, CanRenumber, PathRenumbered}
+use Rattle.renumbering.specs.Renumber.{pathSlots, CanRenumber, PathRenumbered}
 use Rattle.propagate.specs.Propagate.{CanPropagate, PropagateMeets}
-use Rattle.update.proofs.Renumbering.{fits-renumbered, kept-renumbered}
+use Rattle.renumbering.proofs.Renumbering.{fits-renumbered, kept-renumbered}
 use Rattle.update.proofs.ChangeBegins.{settingOf, pixelsAt, at-most-pixel, change-begins}
 
 module _ (before after : List ℕ) (usable : UsableStore before) (code : ℕ) (target : List ℕ) (few : length target ≤ sizesOf before .most) (kept : Kept (layoutOf (sizesOf before)) before after) where

@@ -1,4 +1,3 @@
-pub mod Renumbering
 pub mod SameBlocks
 pub mod PathNumbers
 pub mod ChangeBegins

@@ -13,18 +13,18 @@ use Rattle.measures.specs.Sizes.{largestMost}
 use Rattle.measures.specs.declared.sizes.Layout.{Layout}
 use Rattle.measures.specs.Slot.{slotPart, levelWord, codeWord, numberWord}
 use Rattle.store.specs.Placed.{Placed, slotsOf}
-use Rattle.store.specs.FreeSlots.{FreeSlots, occurrences}
+use Rattle.freeslots.specs.FreeSlots.{FreeSlots, occurrences}
 use Rattle.store.specs.Sound.{SlotsShared}
 use Rattle.store.specs.Numbers.{numberBetween, numberIn, NumberRight, Numbered}
 use Rattle.store.proofs.Standing.{Stands, every-join}
-use Rattle.store.proofs.FreeChains.{occurrences-join}
+use Rattle.freeslots.proofs.FreeChains.{occurrences-join}
 use Rattle.store.proofs.SlotTotals.{every-occurs}
 use Rattle.store.proofs.BlockNumbers.{chain-levels}
 use Rattle.store.proofs.NumbersBetween.{number-few}
 use Rattle.descent.specs.Way.{Frame}
 use Rattle.descent.specs.Located.{PathNames}
 use Rattle.ascent.proofs.Frames.{FramesRight, FramesStand, waySlots, frame-holds}
-use Rattle.update.specs.Renumber.{pathSlots, PathRenumbered}
+use Rattle.renumbering.specs.Renumber.{pathSlots, PathRenumbered}
 
 -- the slots of the way's own blocks, and of those beside them
 abbrev pub frameSlots : List Frame → List ℕ

@@ -9,12 +9,12 @@ use Rattle.measures.specs.Words.{headWords, blocksIndex, firstFreeIndex, firstF
 use Rattle.measures.specs.Slot.{slotPart, nextWord}
 use Rattle.measures.proofs.SlotWrites.{word-in-front}
 use Rattle.store.specs.Placed.{Placed}
-use Rattle.store.specs.FreeSlots.{FreeChain}
+use Rattle.freeslots.specs.FreeSlots.{FreeChain}
 use Rattle.store.proofs.Standing.{SlotSays, Stands}
 use Rattle.store.proofs.SlotsLeft.{SlotsLeft}
 use Rattle.descent.specs.Way.{Frame}
 use Rattle.ascent.proofs.Frames.{FramesStand}
-use Rattle.update.specs.Renumber.{SameBlock}
+use Rattle.renumbering.specs.Renumber.{SameBlock}
 
 module _ (width : ℕ) (before after : List ℕ) (same : (t : ℕ) → SameBlock (slotPart width before t) (slotPart width after t)) where
   pub says-same : (s level code : ℕ) (es : Placed) → SlotSays (slotPart width before s) level code es → SlotSays (slotPart width after s) level code es

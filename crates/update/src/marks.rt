@@ -5,7 +5,6 @@ ghost use Rattle.promises.specs.Effect.{effect};
 ghost use Rattle.promises.specs.Calls.{Marks, Clears};
 ghost use Rattle.answers.specs.Answer.{answer};
 ghost use Rattle.update.specs.Changed.{CanChange, ChangeMeets, endingOf};
-use crate::numbers::renumber_path;
 use answers::Outcome;
 use answers::Refusal;
 use descent::PATH_LENGTH;
@@ -17,6 +16,7 @@ use measures::slots::wide;
 use measures::words::HEAD_WORDS;
 use measures::words::REGISTER_MARK;
 use propagate::propagate;
+use renumbering::renumber_path;
 use step::Change;
 
 // The number of pixels held is the root's, and the root's slot is the first.

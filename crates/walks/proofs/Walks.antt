@@ -9,11 +9,11 @@ use Rattle.pktree.proofs.Unlabelled.{unlabelled-join}
 use Rattle.measures.specs.declared.sizes.Layout.{Layout}
 use Rattle.measures.specs.Layout.{LayoutFits, levelAboveRoot}
 use Rattle.measures.specs.Slot.{slotPart, elementIndex}
-use Rattle.store.specs.Element.{elementAt}
+use Rattle.elements.specs.Element.{elementAt}
 use Rattle.store.specs.Placed.{Placed}
 use Rattle.store.specs.Opening.{CannotOpen}
-use Rattle.store.specs.declared.elements.Element.{Element}
-use Rattle.store.specs.declared.elements.Element.the-variants.{Pixel, Block}
+use Rattle.elements.specs.declared.Element.{Element}
+use Rattle.elements.specs.declared.Element.the-variants.{Pixel, Block}
 use Rattle.store.specs.declared.opening.Opening.{Opening}
 use Rattle.store.specs.declared.opening.Opening.the-variants.{Elements, Damaged}
 use Rattle.store.proofs.BlockView.{BlockView, ChildView}

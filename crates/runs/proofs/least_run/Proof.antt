@@ -2,7 +2,7 @@
 use Prim.Native.Nat.{_-_, _≤_, _<_}
 use native.Mathlib.Omega.{arith}
 use borrow.Author.Needs.{needs}
-use Rattle.store.specs.Splice.{PlaceOf}
+use Rattle.elements.specs.Splice.{PlaceOf}
 use Rattle.runs.specs.declared.RunFound.the-variants.{Nothing}
 use Rattle.runs.specs.Run.{AscendingCodes, LevelBefore, LevelAt, RunMeets}
 use Rattle.runs.proofs.Runs.{Outward, some-before, some-at, few-near, take-left, take-right, run-found}

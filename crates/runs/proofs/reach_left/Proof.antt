@@ -3,7 +3,7 @@ use Prim.Native.Nat.{ℕ, _+_, _-_, _*_, _≤_, _<_}
 use native.Mathlib.Omega.{arith}
 use mathlib.Core.Path.{_≡_, sym, _∙_}
 use borrow.Author.Needs.{needs}
-use Rattle.store.specs.Splice.{codeAt}
+use Rattle.elements.specs.Splice.{codeAt}
 use Rattle.runs.specs.Run.{Near}
 use Rattle.runs.proofs.Runs.{near-with}
 use Rattle.runs.proofs.reach_left.Statement.{statement}

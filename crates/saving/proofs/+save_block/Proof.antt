@@ -18,7 +18,7 @@ use Rattle.saving.proofs.save_pixel.Reads as save-pixel
 use Rattle.saving.proofs.stop.Reads as stop
 use Rattle.walks.proofs.enter.Reads as enter
 use Rattle.walks.proofs.part_of.Reads as part-of
-use Rattle.store.proofs.elements.element_at.Reads as element-at
+use Rattle.elements.proofs.element_at.Reads as element-at
 use Rattle.saving.proofs.+save_block.{statement}
 use Rattle.saving.proofs.+save_block.Tie.{close}
 

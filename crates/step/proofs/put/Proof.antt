@@ -4,7 +4,7 @@ use Prim.Native.Nat.{ℕ, _+_, _-_, _/_, _≤_}
 use mathlib.Core.Path.{_≡_, refl, ap, _∙_}
 use borrow.Author.Needs.{needs}
 use Rattle.measures.specs.Slot.{slotPart, countWord}
-use Rattle.store.specs.Splice.{CanSplice}
+use Rattle.elements.specs.Splice.{CanSplice}
 use Rattle.step.proofs.PutLaws.{count-at, put-can, put-cannot}
 use Rattle.step.proofs.put.Statement.{statement}
 use Rattle.step.proofs.put.Tie as tie

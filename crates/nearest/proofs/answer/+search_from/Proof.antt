@@ -3,13 +3,13 @@ use Prim.Native.Nat.{ℕ, _+_, _-_}
 use native.Mathlib.Omega.{arith}
 use borrow.Author.Needs.{needs}
 use borrow.Fn.PlainCycle.{Measures}
-use Rattle.nearest.specs.Searches.{manyPlaces}
+use Rattle.nearest.specs.Ends.{manyPlaces}
 use Rattle.nearest.proofs.Finding.{known-ends, damaged-ends, full-damaged, never-full}
 use Rattle.nearest.proofs.answer.never_full.Reads as never-full-reads
 use Rattle.nearest.proofs.answer.search_among_many.Reads as many
 use Rattle.nearest.proofs.answer.search_from.Kinds as kinds
 use Rattle.nearest.proofs.answer.search_from.Reads as reads
-use Rattle.nearest.proofs.search.search.Reads as search-reads
+use Rattle.bestfirst.proofs.search.Reads as search-reads
 use Rattle.nearest.proofs.answer.+search_from.Lts-search_from as lts
 use Rattle.nearest.proofs.answer.+search_from.{statement}
 use Rattle.nearest.proofs.answer.+search_from.Tie.{close}

@@ -1,7 +1,7 @@
 use Prim.Native.Nat.{_-_, _≤_}
 use native.Mathlib.Omega.{arith}
 use borrow.Author.Needs.{needs}
-use Rattle.nearest.specs.UnderWay.{EntriesCopied}
+use Rattle.nearest.specs.Copies.{EntriesCopied}
 use Rattle.nearest.proofs.Copying.{copied-none, copied-next, copied-all}
 use Rattle.nearest.proofs.answer.copy_entries.Statement.{statement}
 use Rattle.nearest.proofs.answer.copy_entries.Tie as tie

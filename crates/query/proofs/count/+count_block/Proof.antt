@@ -19,7 +19,7 @@ use Rattle.query.proofs.walk.open_next.Reads as open-next
 use Rattle.windows.proofs.lies.Reads as lies
 use Rattle.std.proofs.num.wrapping_add_u32.Reads as wrapping-add
 use Rattle.walks.proofs.part_of.Reads as part-of
-use Rattle.store.proofs.elements.element_at.Reads as element-at
+use Rattle.elements.proofs.element_at.Reads as element-at
 use Rattle.query.proofs.count.+count_block.{statement}
 use Rattle.query.proofs.count.+count_block.Tie.{close}
 

@@ -1,0 +1,101 @@
+use Prim.Native.Nat.{_-_}
+use native.Mathlib.Omega.{arith}
+use borrow.Author.Needs.{needs}
+use Rattle.bestfirst.proofs.Looping.{Looping, loop-starts, loop-full, loop-complete, loop-spent, keys-lent, tags-lent, loop-damaged, loop-goes-on, loop-over}
+use Rattle.bestfirst.proofs.search.Statement.{statement}
+use Rattle.bestfirst.proofs.search.Tie as tie
+
+abbrev Inv-loop : tie.InvT-loop
+Inv-loop store layout place budget keys₀ tags₀ met₀ opened₀ best₀ keys tags met opened best = Looping store layout place budget keys₀ tags₀ keys tags met opened best
+
+abbrev μ-loop : tie.MeasureT-loop
+μ-loop store layout place budget keys₀ tags₀ met₀ opened₀ best₀ keys tags met opened best = budget - opened
+
+loop-holds : tie.Need-loop-holds Inv-loop μ-loop
+loop-holds c = loop-starts (c .before .before .before .before .pre .3)
+
+-- the places of a turn: where it begins, where there is room, where the least entry was taken out, and where its distance is known
+abbrev start : tie.At-loop Inv-loop μ-loop → tie.Start Inv-loop μ-loop
+start l = l .before .before .before .before .before
+
+abbrev taken-of : tie.After-struct-known2 Inv-loop μ-loop → tie.After-take-least Inv-loop μ-loop
+taken-of t = t .before .before .before .before .before .before
+
+abbrev loop-of : tie.After-struct-known2 Inv-loop μ-loop → tie.At-loop Inv-loop μ-loop
+loop-of t = taken-of t .before .before .before .before .before
+
+abbrev tested-of : tie.After-open-block Inv-loop μ-loop → tie.After-struct-known2 Inv-loop μ-loop
+tested-of o = o .before .before .before .before .before
+
+returns : tie.Need-returns Inv-loop μ-loop
+returns c = loop-full (c .before .before .loop .inv) (c .if1 .taken)
+
+returns-2 : tie.Need-returns-2 Inv-loop μ-loop
+returns-2 c = let t = c .before .before in loop-complete (loop-of t .loop .inv) (taken-of t .take-least .ensures) (c .before .if2 .taken) (c .known .ensures)
+
+returns-3 : tie.Need-returns-3 Inv-loop μ-loop
+returns-3 c =
+    let t = c .before .before .before in
+    loop-spent (loop-of t .loop .inv) (taken-of t .take-least .ensures) (c .before .if3 .taken) (c .before .before .if2 .left) (c .known2 .ensures)
+
+open-block-requires : tie.Need-open-block-requires Inv-loop μ-loop
+open-block-requires c κs =
+    let t = c .before .before .before .before in
+    let taken = taken-of t .take-least .ensures in
+    let room = taken-of t .before .before .before .if1 .left in
+    let said = start (loop-of t) .pre in
+    (said .1, said .2, keys-lent (loop-of t .loop .inv) taken room, tags-lent (loop-of t .loop .inv) taken room, taken .heap)
+
+add-opened : tie.Need-add-opened Inv-loop μ-loop
+add-opened c = let o = c .before .before .before .before .before .before .before in omega (arith, o .before .before .before .if3 .left, start (loop-of (tested-of o)) .fits .budget)
+
+loop-again : tie.Need-loop-again Inv-loop μ-loop
+loop-again c =
+    let o = c .before .before .before .before .before .before .before in
+    let t = tested-of o in
+    loop-goes-on (loop-of t .loop .inv) (taken-of t .take-least .ensures) (o .open-block .ensures) (start (loop-of t) .pre .0) (c .before .nearest .given .1) (o .before .before .before .if3 .left) (o .before .before .before .before .if2 .left)
+
+returns-4 : tie.Need-returns-4 Inv-loop μ-loop
+returns-4 c =
+    let o = c .before .before .before .before .before .before in
+    let t = tested-of o in
+    loop-damaged (loop-of t .loop .inv) (taken-of t .take-least .ensures) (o .open-block .ensures) (c .enum-told .given .1)
+
+returns-5 : tie.Need-returns-5 Inv-loop μ-loop
+returns-5 c = loop-over (c .before .before .before .loop .inv) (c .before .before .loop-test .left) (c .before .distance-shown .ensures) (c .known3 .ensures)
+
+pub search-spec : {M : Type 1} → statement M
+search-spec =
+    tie.close
+    (tie.spec
+    Inv-loop
+    μ-loop
+    loop-holds
+    (λ c. search needs)
+    (λ c. search needs)
+    (λ c. search needs)
+    returns
+    (λ c κs. search needs)
+    (λ c. search needs)
+    (λ c κs. search needs)
+    (λ c. search needs)
+    (λ c. search needs)
+    returns-2
+    (λ c κs. search needs)
+    (λ c. search needs)
+    (λ c. search needs)
+    returns-3
+    open-block-requires
+    (λ c. c .match .keys1)
+    add-opened
+    (λ c. search needs)
+    loop-again
+    (λ c. c .match .keys2)
+    (λ c. search needs)
+    (λ c. search needs)
+    returns-4
+    (λ c κs. search needs)
+    (λ c κs. search needs)
+    (λ c. search needs)
+    (λ c. search needs)
+    returns-5)

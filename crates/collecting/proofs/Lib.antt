@@ -1,0 +1,3 @@
+pub mod WrittenAt
+pub mod Lists
+pub mod BlockLists

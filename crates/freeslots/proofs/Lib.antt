@@ -1,0 +1,2 @@
+pub mod FreeChains
+pub mod FreedSlots

@@ -1,6 +1,0 @@
-use Rattle.nearest.proofs.Stating.{distance-as-found, none-as-zero}
-use Rattle.nearest.proofs.search.distance_shown.Statement.{statement}
-use Rattle.nearest.proofs.search.distance_shown.Tie as tie
-
-pub distance-shown-spec : {M : Type 1} → statement M
-distance-shown-spec = tie.close (tie.spec (λ c. distance-as-found (c .if1 .taken)) (λ c. none-as-zero (c .if1 .left)))
