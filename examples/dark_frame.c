@@ -14,7 +14,7 @@
 
 enum { ORDER = 3, SIDE = 8, K = 3, MOST = 16, HOT = 100 };
 
-/* Words for any K and MOST of this program; store_words() sees that they are enough. */
+/* More words than K and MOST need; store_words() sees that they are enough. */
 static uint32_t first_store[1024], second_store[1024], third_store[1024];
 
 /* A dark frame of 8 x 8 counts, row y, column x: what lies above HOT is unfit. */

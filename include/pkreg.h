@@ -79,7 +79,9 @@ enum {
     PK_IMAGE_DAMAGED = 12,
     /* The store is damaged: its words were changed by something else than these calls. Find who wrote there, then load the last image:
        pk_load and pk_fill rely on words 0 to 3 only. pk_mark and pk_clear have set word 0 to zero, so that every later call gives 3 until pk_make;
-       the other calls left the store, and the content of their output is free. A damaged store is not always met: pk_check tells. */
+       the other calls left the store, and the content of their output is free. A damaged store is not always met: pk_check tells. Where it is
+       not, a code that pk_ask, pk_nearest or pk_list hands over may be any number, also off the panel or out of order: look at it before it
+       indexes a frame. */
     PK_STORE_DAMAGED = 13,
     /* pk_fill: the codes do not strictly ascend. Sort them, and give each once. */
     PK_NOT_ASCENDING = 14,
@@ -92,7 +94,8 @@ typedef struct {
     uint32_t refusal, first, second;
 } pk_answer;
 
-/* The refusal, and what pk_ask returns: whether a pixel is marked, the blocks opened, and the level and code of the block in which it lies. */
+/* The refusal, and what pk_ask returns: whether a pixel is marked, the blocks opened, and the level and code of the smallest block of
+   the tree that contains it. */
 typedef struct {
     uint32_t refusal, marked, opened, level, code;
 } pk_place;
@@ -129,7 +132,8 @@ uint32_t pk_fill(uint32_t *store, size_t words, const uint32_t *codes, size_t co
    smallest of these, whether or not the pixel is marked; where there is no smaller one it is the root, of level m and code 0. That block is
    the square of x from X to X + 2^level - 1 and y from Y to Y + 2^level - 1, where (X, Y) is the pixel with the code `code`: bit i of X is
    bit 2i of code, bit i of Y is bit 2i + 1. The pixel is marked exactly when it is an element of that block. Where the store is damaged and
-   the call is not refused, marked is still at most 1, and opened and level are at most m. Refusals 3, 4, 13. */
+   the call is not refused, marked is still at most 1, and opened and level are at most m; code may be any number, so that the square may
+   reach past the panel. Refusals 3, 4, 13. */
 pk_place pk_ask(const uint32_t *store, size_t words, uint32_t x, uint32_t y);
 
 /* The marked pixel nearest to (x, y), sought until it is certain or `budget` blocks are opened. Blocks are opened from the root down, of

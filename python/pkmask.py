@@ -12,9 +12,10 @@ from pkreg import LARGEST_MOST, LibraryMissing, Refusal, Register, __version__, 
 # many pixels and not as a file that was cut
 LONGEST_IMAGE = 10 + 5 * (2 * 65535)
 PICTURES = """A picture is PBM (name ending .pbm), where 1 is masked, or PGM (.pgm) of greatest value 255, where 255 is masked and 0 is not.
-Column x of row y is pixel (x, y); row 0 is the first row of the file."""
+Column x of row y is pixel (x, y); row 0 is the first row of the file. Its sides are equal, a power of two from 2 to 8192."""
 CLUSTER = """The cluster of a pixel is the smallest block of the image's tree that contains it, masked or not: the whole panel where there is no
-smaller one."""
+smaller one. opened is the number of blocks that contain the pixel."""
+WINDOW = "opened is the number of blocks of the image's tree that share a pixel with the window."
 TOO_MANY = f"more masked pixels than the {LARGEST_MOST} that a register holds"
 DIFFERENT, FAILED = 1, 2
 
@@ -131,7 +132,7 @@ def parse(words):
 
     command("show", show, "show an image's sizes and its entries, in the image's order", "image")
     pixel = command("ask", ask, "say whether a pixel is masked, and where its cluster lies", "image", epilog=CLUSTER)
-    window = command("list", list_window, "list the masked pixels of a window, both corners included; it may reach past the panel", "image")
+    window = command("list", list_window, "list the masked pixels of a window, both corners included; it may reach past the panel", "image", epilog=WINDOW)
     for added, names in ((pixel, ("x", "y")), (window, ("x0", "y0", "x1", "y1"))):
         for name in names:
             added.add_argument(name, type=coordinate)

@@ -164,7 +164,7 @@ def words(k, most):
 
 
 def code_of(x, y):
-    """The code of a pixel: bit i of x is bit 2i, bit i of y is bit 2i + 1."""
+    """The code of a pixel, x and y from 0 to 65535: bit i of x is bit 2i, bit i of y is bit 2i + 1. Higher bits are cut off."""
     return sum((x >> i & 1) << 2 * i | (y >> i & 1) << 2 * i + 1 for i in range(16))
 
 
@@ -226,7 +226,7 @@ class Register:
 
     @classmethod
     def from_image(cls, image):
-        """A register of the image's own sizes that holds its pixels, and no room for more; Refusal 11 for more pixels than LARGEST_MOST, as
+        """A register of the image's own sizes that holds its pixels, with no room for more (for one, if it has none); Refusal 11 for more pixels than LARGEST_MOST, as
         versions before 1.6.0 could save."""
         sizes = sizes_of(image)
         register = cls.make(sizes.order, sizes.k, min(max(sizes.pixels, 1), LARGEST_MOST))
@@ -236,7 +236,7 @@ class Register:
     @classmethod
     def from_pixels(cls, m, k, pixels, most=None):
         """A register of order m, with this k, that holds these pixels, (x, y) each, in any order and doubles taken once; if `most` is not
-        given, there is no room for more. Refusal 6 for more pixels than `most` or LARGEST_MOST."""
+        given, there is no room for more (for one, if there are none). Refusal 6 for more pixels than `most` or LARGEST_MOST."""
         pixels = {(operator.index(x), operator.index(y)) for x, y in pixels}
         register = cls.make(m, k, min(max(len(pixels), 1), LARGEST_MOST) if most is None else most)
         register.fill(sorted(register._code(x, y) for x, y in pixels))
@@ -269,8 +269,8 @@ class Register:
         self._done(_calls().pk_load(*self._lent, lent, len(image)))
 
     def fill(self, codes):
-        """The register holds exactly the pixels of these codes afterwards, which must strictly ascend (Refusal 14) and be no more than it may
-        hold (6); code_of gives a pixel's code."""
+        """The register holds exactly the pixels of these codes afterwards, which must lie on the panel (Refusal 4), be no more than it may hold
+        (6) and strictly ascend (14); code_of gives a pixel's code."""
         lent = _words_of(codes)
         self._done(_calls().pk_fill(*self._lent, lent, len(lent)))
 
@@ -293,7 +293,8 @@ class Register:
 
     def count(self, x0, y0, x1, y1):
         """The marked pixels in the window, both corners included, and the blocks opened, which are those that share a pixel with it without
-        lying wholly inside: of its part on the panel, where it reaches past that. A corner below 0 is given as 0."""
+        lying wholly inside: of its part on the panel, where it reaches past that. Give 0 for a corner
+        below 0: a negative number raises ValueError."""
         answer = self._answer(_calls().pk_count(*self._lent, *map(_number, (x0, y0, x1, y1))))
         return Counted(answer.first, answer.second)
 

@@ -90,7 +90,9 @@ static void all_calls(void)
         pk_ask(store, words, coordinate(codes[i]), coordinate(codes[i] >> 1));
     }
     pk_count(store, words, 0, 0, LAST, LAST);
+    pk_count(store, words, 0, 0, 0, 0);
     pk_list(store, words, 0, 0, LAST, LAST, listed, MOST);
+    pk_list(store, words, 0, 0, 0, 0, listed, MOST);
     saved = pk_save(store, words, image, sizeof image);
     pk_load(store, words, image, saved.first);
     pk_fill(store, words, codes, pixels);

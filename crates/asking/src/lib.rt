@@ -1,4 +1,4 @@
-// Asking: one descent finds the smallest block that contains a pixel, and the blocks passed are those opened.
+// Asking: one descent finds the smallest block that contains a pixel; it and the blocks passed on the way are those opened.
 ghost use mathlib.Core.Path.{_≡_};
 ghost use Rattle.pktree.specs.Panel.{OnPanel};
 ghost use Rattle.measures.specs.Sizes.{UsableStore, panelOf, sizesOf};

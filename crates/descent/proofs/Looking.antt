@@ -29,7 +29,7 @@ elementCode (Pixel c) = c
 elementCode (Block s i c) = c
 
 -- an element's code is its first word
-pub code-of-element : (part : List ℕ) (i : ℕ) {e : Element} → elementAt part i ≡ e → codeAt part i ≡ elementCode e
+code-of-element : (part : List ℕ) (i : ℕ) {e : Element} → elementAt part i ≡ e → codeAt part i ≡ elementCode e
 code-of-element part i h = go (getD part (elementIndex i + 1) 0) ∙ ap elementCode h
   where
     go : (tag : ℕ) → codeAt part i ≡ elementCode (elementOf (codeAt part i) tag)

@@ -28,7 +28,7 @@ some-element (pixel c f) n = omega arith
 some-element (blockAt u i c es f) n = omega arith
 
 -- blocks of a root with elements that are right
-pub blocks-of-local : (k m : ℕ) (es : Forest) → 2 ≤ k → LocallyRight k m 0 es → 1 ≤ length (pixels es)
+blocks-of-local : (k m : ℕ) (es : Forest) → 2 ≤ k → LocallyRight k m 0 es → 1 ≤ length (pixels es)
     → blockCount (block m 0 es empty) ≤ 1 + (length (pixels es) - 1) / (k - 1)
 blocks-of-local zero m es h r n = absurd (omega arith)
 blocks-of-local (suc K) m es h r n =

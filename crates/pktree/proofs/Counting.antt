@@ -60,7 +60,7 @@ wider j l q c h =
     indicator-mono (eqb (c / 4 ^ j) q) (eqb (c / 4 ^ l) (q * 4 ^ j / 4 ^ l))
     (λ e. let p : c / 4 ^ j ≡ q = eqb-true (c / 4 ^ j) q e in eq-eqb (c / 4 ^ l) (q * 4 ^ j / 4 ^ l) (sym (block-of-blockCode j l c h) ∙ ap (λ (m : ℕ). m * 4 ^ j / 4 ^ l) p))
 
-pub countIn-below : {A : Type 0} (j l q : ℕ) (f : ForestOf A) → j ≤ l → countIn j q f ≤ countIn l (q * 4 ^ j / 4 ^ l) f
+countIn-below : {A : Type 0} (j l q : ℕ) (f : ForestOf A) → j ≤ l → countIn j q f ≤ countIn l (q * 4 ^ j / 4 ^ l) f
 countIn-below j l q empty h = omega arith
 countIn-below j l q (pixel c f) h = omega (arith, wider j l q c h, countIn-below j l q f h)
 countIn-below j l q (blockAt u i c es f) h = omega (arith, wider j l q c h, countIn-below j l q f h)

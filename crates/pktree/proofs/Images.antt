@@ -34,7 +34,7 @@ second-byte a = rw (div-div-eq-div-mul a 256 256)
 third-byte : (a : ℕ) → a < 4294967296 → a / 256 / 256 / 256 ≡ a / 16777216 % 256
 third-byte a h = sym (mod-eq-of-lt (top-byte a h)) ∙ rw (div-div-eq-div-mul a 256 256, div-div-eq-div-mul a 65536 256)
 
-pub four-bytes-determine : (a b : ℕ) → a < 4294967296 → b < 4294967296 → fourBytes a ≡ fourBytes b → a ≡ b
+four-bytes-determine : (a b : ℕ) → a < 4294967296 → b < 4294967296 → fourBytes a ≡ fourBytes b → a ≡ b
 four-bytes-determine a b p q e =
     digit a b (cc)
     (digit (a / 256) (b / 256) (cc)
@@ -48,7 +48,7 @@ pub length-level-bytes : (l : List Entry) → length (levelBytes l) ≡ length l
 length-level-bytes [] = refl
 length-level-bytes (e ∷ l) = ap suc (length-level-bytes l)
 
-pub length-arrays : (l : List Entry) → length (arrays l) ≡ 5 * length l
+length-arrays : (l : List Entry) → length (arrays l) ≡ 5 * length l
 length-arrays l = omega (arith, length-append (codeBytes l) (levelBytes l), length-code-bytes l, length-level-bytes l)
 
 pub image-length : (panel : Panel) (set : List ℕ) → length (image panel set) ≡ headerLength + 5 * length (entries (tree panel (member set)))
@@ -62,7 +62,7 @@ cut-right : {A : Type 0} (a b a′ b′ : List A) → length a ≡ length a′ �
 cut-right a b a′ b′ e p = sym (drop-at a b (length a) refl) ∙ ap (drop (length a)) p ∙ drop-at a′ b′ (length a) (sym e)
 
 -- the arrays tell the entries
-pub columns-determine : (l l′ : List Entry) (top top′ : ℕ) → Every (EntryWithin 4294967296 top) l → Every (EntryWithin 4294967296 top′) l′
+columns-determine : (l l′ : List Entry) (top top′ : ℕ) → Every (EntryWithin 4294967296 top) l → Every (EntryWithin 4294967296 top′) l′
     → codeBytes l ≡ codeBytes l′ → levelBytes l ≡ levelBytes l′ → l ≡ l′
 columns-determine [] [] t t′ h h′ p q = refl
 columns-determine [] (e ∷ l′) t t′ h h′ p q = zero-is-not-one (cc)
@@ -75,7 +75,7 @@ columns-determine (e ∷ l) (e′ ∷ l′) t t′ h h′ p q =
     columns-determine l l′ t t′ (h .1) (h′ .1) (cut-right (fourBytes (e .code)) (codeBytes l) (fourBytes (e′ .code)) (codeBytes l′) refl p) (cc) in
     ap₂ _∷_ (ap₂ entry v c) r
 
-pub arrays-determine : (l l′ : List Entry) (top top′ : ℕ) → Every (EntryWithin 4294967296 top) l → Every (EntryWithin 4294967296 top′) l′
+arrays-determine : (l l′ : List Entry) (top top′ : ℕ) → Every (EntryWithin 4294967296 top) l → Every (EntryWithin 4294967296 top′) l′
     → arrays l ≡ arrays l′ → l ≡ l′
 arrays-determine l l′ t t′ h h′ e =
     let n : length (codeBytes l) ≡ length (codeBytes l′) =

@@ -162,7 +162,7 @@ four : {f a0 r1 a1 r2 a2 a3 b0 b1 b2 b3 : Forest} → f ≡ a0 ⧺ r1 → r1 ≡
     → f ≡ b0 ⧺ (b1 ⧺ (b2 ⧺ b3))
 four p q r e0 e1 e2 e3 = cc
 
-pub local-determined : (M : ℕ → Bool) (k L c : ℕ) (es : Forest) → Aligned L c → LocallyRight k L c es → MarkedAs M es c (c + 4 ^ L) → es ≡ gather M k L c
+local-determined : (M : ℕ → Bool) (k L c : ℕ) (es : Forest) → Aligned L c → LocallyRight k L c es → MarkedAs M es c (c + 4 ^ L) → es ≡ gather M k L c
 unfolding gather
 local-determined M k zero c es a h o = leaf-local-determined M k c es (h .arranged) o
 local-determined M k (suc l) c es a h o =
@@ -188,11 +188,11 @@ few-are-given k l d f a h few =
     quarter (member (pixels f)) k l d (d + 4 ^ l) f refl a (record { arranged = h; sparse = sparse-of-small k l f few; marks = λ x p q. refl })
     (λ es u v. local-determined (member (pixels f)) k l d es a u v)
 
-pub local-is-tree : (panel : Panel) (es : Forest) → LocallyRight (panel .k) (panel .order) 0 es → block (panel .order) 0 es empty ≡ tree panel (member (pixels es))
+local-is-tree : (panel : Panel) (es : Forest) → LocallyRight (panel .k) (panel .order) 0 es → block (panel .order) 0 es empty ≡ tree panel (member (pixels es))
 local-is-tree panel es h = ap (λ (f : Forest). block (panel .order) 0 f empty) (local-is-gather (panel .k) (panel .order) 0 es (aligned-root (panel .order)) h)
 
 -- the other way: only a block above the pixels has k elements
-pub level-of-many : (k l c : ℕ) (es : Forest) → 2 ≤ k → LocallyRight k l c es → k ≤ size es → 1 ≤ l
+level-of-many : (k l c : ℕ) (es : Forest) → 2 ≤ k → LocallyRight k l c es → k ≤ size es → 1 ≤ l
 level-of-many k zero c es h r p = absurd (omega (arith, size-in-range k 0 c (c + 4 ^ 0) es (r .arranged)))
 level-of-many k (suc l) c es h r p = omega arith
 

@@ -113,7 +113,7 @@ count-on k q r n h true e w =
     (omega (arith, rw e at (w .0), ap h e′), λ p. omega (arith, w .1 p))
 count-on k q r n h false e w = (omega (arith, rw (eq-eqb r r refl) at (w .1 r)), λ p. omega (arith, w .1 p))
 
-pub sparse-of-pass : {A : Type 0} (k l to from q n : ℕ) (f : ForestOf A) → Arranged k (suc l) from to f → passTest k l to from q n (heads f) ≡ true → q * 4 ^ l ≤ from → n < k
+sparse-of-pass : {A : Type 0} (k l to from q n : ℕ) (f : ForestOf A) → Arranged k (suc l) from to f → passTest k l to from q n (heads f) ≡ true → q * 4 ^ l ≤ from → n < k
     → TallyBelow k q n (λ p. countIn l p f)
 sparse-of-pass k l to from q n empty w e a s = (omega arith, λ p. omega arith)
 sparse-of-pass k l to from q n (pixel c f) w e a s =
@@ -131,7 +131,7 @@ sparse-of-pass k l to from q n (blockAt u i c es f) w e a s =
     count-step k q r n (λ p. countIn l p f) b refl s (λ ne. countIn-after k (suc l) l q (c + 4 ^ i) to f (w .7) (omega (arith, past l q c (omega arith) ne)))
     (sparse-of-pass k l to (c + 4 ^ i) r (tally b n) f (w .7) (t .rest) (omega (arith, div-mul-le-self c (4 ^ l))) (t .count))
 
-pub arranged-of-pass : {A : Type 0} (k l to from q n : ℕ) (f : ForestOf A) → 0 < k → passTest k l to from q n (heads f) ≡ true → insideTest k f ≡ true → Arranged k (suc l) from to f
+arranged-of-pass : {A : Type 0} (k l to from q n : ℕ) (f : ForestOf A) → 0 < k → passTest k l to from q n (heads f) ≡ true → insideTest k f ≡ true → Arranged k (suc l) from to f
 arranged-of-pass k l to from q n empty h e g = leb-true from to e
 arranged-of-pass k l to from q n (pixel c f) h e g =
     let t = passed k l to from q n 0 c (heads f) e in
@@ -158,7 +158,7 @@ arranged-of-pass k l to from q n (blockAt w (suc i) c es f) h e g =
       arranged-of-pass k l to (c + 4 ^ suc i) r m f h (t .rest) (y .1),
     )
 
-pub pass-of-arranged : {A : Type 0} (k l to from q n : ℕ) (f : ForestOf A) → Arranged k (suc l) from to f → TallyBelow k q n (λ p. countIn l p f) → passTest k l to from q n (heads f) ≡ true
+pass-of-arranged : {A : Type 0} (k l to from q n : ℕ) (f : ForestOf A) → Arranged k (suc l) from to f → TallyBelow k q n (λ p. countIn l p f) → passTest k l to from q n (heads f) ≡ true
 pass-of-arranged k l to from q n empty w a = le-leb from to w
 pass-of-arranged k l to from q n (pixel c f) w a =
     let r = c / 4 ^ l in
@@ -174,7 +174,7 @@ pass-of-arranged k l to from q n (blockAt u i c es f) w a =
     passes k l to from q n i c (heads f)
     (record { above = w .0; level = omega arith; aligned = remainder-of-aligned i c (w .4); count = omega arith; rest = pass-of-arranged k l to (c + 4 ^ i) r m f (w .7) b })
 
-pub arranged-inside : {A : Type 0} (k n from to : ℕ) (f : ForestOf A) → Arranged k n from to f → insideTest k f ≡ true
+arranged-inside : {A : Type 0} (k n from to : ℕ) (f : ForestOf A) → Arranged k n from to f → insideTest k f ≡ true
 arranged-inside k n from to empty w = refl
 arranged-inside k n from to (pixel c f) w = arranged-inside k n (suc c) to f (w .1)
 arranged-inside k n from to (blockAt u zero c es f) w = absurd (omega arith)

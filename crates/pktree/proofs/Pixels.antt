@@ -19,7 +19,7 @@ abbrev pub keep : Bool → ℕ → List ℕ → List ℕ
 keep true c l = c ∷ l
 keep false c l = l
 
-pub keep-join : (b : Bool) (c : ℕ) (l r : List ℕ) → keep b c l ++ r ≡ keep b c (l ++ r)
+keep-join : (b : Bool) (c : ℕ) (l r : List ℕ) → keep b c l ++ r ≡ keep b c (l ++ r)
 keep-join true c l r = refl
 keep-join false c l r = refl
 
@@ -28,7 +28,7 @@ abbrev pub markedFrom : (ℕ → Bool) → ℕ → ℕ → List ℕ
 markedFrom M zero c = []
 markedFrom M (suc n) c = keep (M c) c (markedFrom M n (suc c))
 
-pub marked-join : (M : ℕ → Bool) (n p c : ℕ) → markedFrom M (n + p) c ≡ markedFrom M n c ++ markedFrom M p (c + n)
+marked-join : (M : ℕ → Bool) (n p c : ℕ) → markedFrom M (n + p) c ≡ markedFrom M n c ++ markedFrom M p (c + n)
 marked-join M zero p c = simp (zero-add, add-zero)
 marked-join M (suc n) p c = simp (suc-add, add-suc, keep-join, marked-join M n p (suc c))
 
@@ -87,7 +87,7 @@ pub tree-determines-set : (panel : Panel) (M M′ : ℕ → Bool) → tree panel
 tree-determines-set panel M M′ e x h =
     sym (member-of-tree panel M x h) ∙ ap (λ (f : Forest). member (pixels f) x) e ∙ member-of-tree panel M′ x h
 
-pub marked-depends-inside : (M M′ : ℕ → Bool) (n c : ℕ) → ((x : ℕ) → c ≤ x → x < c + n → M x ≡ M′ x) → markedFrom M n c ≡ markedFrom M′ n c
+marked-depends-inside : (M M′ : ℕ → Bool) (n c : ℕ) → ((x : ℕ) → c ≤ x → x < c + n → M x ≡ M′ x) → markedFrom M n c ≡ markedFrom M′ n c
 marked-depends-inside M M′ zero c h = refl
 marked-depends-inside M M′ (suc n) c h =
     cc (h c (omega arith) (omega arith), marked-depends-inside M M′ n (suc c) (λ x p q. h x (omega arith) (omega arith)))

@@ -1,4 +1,4 @@
--- 01 "Sample panels": the starred lines, by computation.
+-- 01 "Sample panels": the starred lines, by computation; and 02, P4 and P8 on one of them.
 use Prim.Native.Nat.{ℕ}
 use native.Mathlib.Omega.{arith}
 use mathlib.Core.Path.{_≡_, refl}

@@ -14,7 +14,7 @@ use Rattle.pktree.proofs.InTree.{in-tree-exactly-instantiated}
 pub size-give : (k i c : ℕ) (f : Forest) → 2 ≤ k → size (give k i c f) ≤ k - 1
 size-give k i c f h = give-case (λ (g : Forest). size g ≤ k - 1) k i c f (λ l. omega arith) (λ l. omega arith)
 
-pub size-leaf : (M : ℕ → Bool) (k c : ℕ) → size (gather M k 0 c) ≤ 1
+size-leaf : (M : ℕ → Bool) (k c : ℕ) → size (gather M k 0 c) ≤ 1
 unfolding gather
 size-leaf M k c = cond-case (λ (g : Forest). size g ≤ 1) (M c) (pixel c empty) empty (λ t. omega arith) (λ t. omega arith)
 

@@ -39,7 +39,7 @@ use Rattle.pktree.proofs.Alignment.{pow-pos, aligned-multiple, blocks-n
 abbrev Passing : (ℕ → Bool) → ℕ → ℕ → Type 0
 Passing test n from = (code : ℕ) × (from ≤ code) × (code < from + n) × (test code ≡ true)
 
-pub some-from-exactly
+some-from-exactly
     : (test : ℕ → Bool) (n from : ℕ)
     → (someFrom test n from ≡ true) ↔ ((code : ℕ) × (from ≤ code) × (code < from + n) × (test code ≡ true))
 unfolding someFrom

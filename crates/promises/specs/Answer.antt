@@ -3,7 +3,8 @@ use Prim.Native.Nat.{ℕ}
 use mathlib.Core.Bool.{Bool, true, false}
 use Rattle.searching.specs.Nearest.{Nearest}
 
--- what two calls answer beside their first two values: 02, P5: nearest the pixel's code and the three after it; 02, P8: ask a block's code and level
+-- what two calls answer beside their first two values: 02, P5: nearest the pixel's code and distance, the limit, and whether the search is complete; 02, P8: ask
+-- a block's code and level
 pub record Further : Type 0 where
   pub code : ℕ
   pub level : ℕ

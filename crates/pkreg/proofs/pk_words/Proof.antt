@@ -1,4 +1,4 @@
--- `pkreg::pk_words` meets its contract: the limits are judged on the smallest panel, and the formula is store's.
+-- `pkreg::pk_words` meets its contract: the limits are judged on the smallest panel, and the formula is measures'.
 use borrow.Author.Needs.{needs}
 use borrow.Author.Tests.{not-true, not-false}
 use Rattle.measures.proofs.Decides.{decided-true, decided-false}

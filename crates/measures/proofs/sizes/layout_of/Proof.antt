@@ -1,4 +1,4 @@
--- `store::sizes::layout_of` meets its contract: there are no more slots than pixels, so the number of slots fits.
+-- `measures::sizes::layout_of` meets its contract: there are no more slots than pixels, so the number of slots fits.
 use native.Mathlib.Omega.{arith}
 use mathlib.Core.Path.{refl}
 use borrow.Author.Needs.{needs}

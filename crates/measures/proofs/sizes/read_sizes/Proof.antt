@@ -1,4 +1,4 @@
--- `store::sizes::read_sizes` meets its contract: each test is one part of what makes a store usable.
+-- `measures::sizes::read_sizes` meets its contract: each test is one part of what makes a store usable.
 use native.Mathlib.Omega.{arith}
 use mathlib.Core.Path.{refl}
 use borrow.Author.Needs.{needs}

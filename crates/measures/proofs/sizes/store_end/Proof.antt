@@ -1,4 +1,4 @@
--- `store::sizes::store_end` meets its contract: the slots' words are few enough for a `usize`.
+-- `measures::sizes::store_end` meets its contract: the slots' words are few enough for a `usize`.
 use native.Mathlib.Omega.{arith}
 use mathlib.Core.Path.{refl}
 use Rattle.measures.proofs.Bounds.{words-bounded}

@@ -1,4 +1,4 @@
--- `store::sizes::within_limits` meets its contract: each limit is tested, and the last test decides.
+-- `measures::sizes::within_limits` meets its contract: each limit is tested, and the last test decides.
 use native.Mathlib.Omega.{arith}
 use borrow.Author.Needs.{needs}
 use Rattle.measures.specs.Sizes.{ValidSizes, largestMost}

@@ -1,4 +1,4 @@
--- `store::sizes::write_sizes` meets its contract: the formula is more than four words, and words 0 to 3 are those of the sizes.
+-- `measures::sizes::write_sizes` meets its contract: the formula is more than four words, and words 0 to 3 are those of the sizes.
 use borrow.Author.Needs.{needs}
 use native.Mathlib.Omega.{arith}
 use lib.ListN.{length-set}

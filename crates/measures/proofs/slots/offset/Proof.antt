@@ -1,4 +1,4 @@
--- `store::slots::offset` meets its contract: a slot ends before the slots do, whose words are few enough for a `usize`.
+-- `measures::slots::offset` meets its contract: a slot ends before the slots do, whose words are few enough for a `usize`.
 use native.Mathlib.Omega.{arith}
 use mathlib.Core.Path.{refl}
 use Prim.Native.Nat.{_+_, _*_, _≤_}

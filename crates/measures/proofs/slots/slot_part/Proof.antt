@@ -1,4 +1,4 @@
--- `store::slots::slot_part` meets its contract: the slot ends before the store does, and the part is as wide as a slot.
+-- `measures::slots::slot_part` meets its contract: the slot ends before the store does, and the part is as wide as a slot.
 use Prim.Native.Nat.{_+_, _-_}
 use native.Mathlib.Omega.{arith}
 use mathlib.Core.Path.{_≡_}
