@@ -45,7 +45,7 @@ module _ (words : List ℕ) (code : ℕ) (sizes : Sizes) (layout : Layout) (slot
   asked-known ok =
       record {
         ends = inl (record {
-          accepted = refl;
+          answered = refl;
           marked-to = yes-no-to (r .marked);
           opened-to = omega (arith, m .bounds ok .deep, m .bounds ok .level-from, order-is);
           level-to = omega (arith, m .bounds ok .deep, order-is);

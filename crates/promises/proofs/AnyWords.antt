@@ -121,7 +121,7 @@ module _ {order : ℕ} {a : Answer} where
 
   walk-place : {before after : List ℕ} → Locates order (effect a before after) ⊎ ((a ≡ refused 13) × (after ≡ before)) → PlaceBounded order a
   walk-place ends =
-      ⊎-elim (λ l. record { zeros = λ z. absurd (z (l .accepted)); marked-to = l .marked-to; opened-to = l .opened-to; level-to = l .level-to }) (λ d. refused-place (d .0)) ends
+      ⊎-elim (λ l. record { zeros = λ z. absurd (z (l .answered)); marked-to = l .marked-to; opened-to = l .opened-to; level-to = l .level-to }) (λ d. refused-place (d .0)) ends
 
 pub ask-bounded : {words : List ℕ} {x y : ℕ} {a : Answer} → AskMeets words x y a → PlaceBounded (sizesOf words .order) a
 ask-bounded m = ⊎-elim (λ c. refused-place (c .returns .is)) (λ w. walk-place (w .ends)) (pixel-ends m)

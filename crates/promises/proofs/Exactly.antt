@@ -91,7 +91,7 @@ module _ {before after : List ℕ} {x y : ℕ} {a : Answer} where
       m
 
 pub ask-refusals : {words : List ℕ} {x y : ℕ} {a : Answer} → AskMeets words x y a → PixelRefusals words x y a
-ask-refusals m = pixel-refusals (walk-number (λ b. accepted-number (b .accepted))) m
+ask-refusals m = pixel-refusals (walk-number (λ b. accepted-number (b .answered))) m
 
 -- 02, P5: 3 and 4 of nearest as of ask, then 15
 pub record NearestRefusals (words : List ℕ) (x y budget : ℕ) (a : Answer) : Type 0 where

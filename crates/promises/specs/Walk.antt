@@ -22,7 +22,7 @@ pub record Accepts (first second : ℕ) (e : Effect) : Type 0 where
 
 -- 02, P8: accepted, with no more blocks opened than the order, and no level above it
 pub record Locates (order : ℕ) (e : Effect) : Type 0 where
-  pub accepted : e .answer .refusal ≡ 0
+  pub answered : e .answer .refusal ≡ 0
   pub marked-to : e .answer .first ≤ 1
   pub opened-to : e .answer .second ≤ order
   pub level-to : e .answer .further .level ≤ order
