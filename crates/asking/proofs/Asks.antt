@@ -49,6 +49,7 @@ module _ (words : List ℕ) (code : ℕ) (sizes : Sizes) (layout : Layout) (slot
           marked-to = yes-no-to (r .marked);
           opened-to = omega (arith, m .bounds ok .deep, m .bounds ok .level-from, order-is);
           level-to = omega (arith, m .bounds ok .deep, order-is);
+          no-search = refl;
         });
         spoiled = λ s. zero-is-not-one (cc (shut (spoiled-shut words usable s), ok));
         sound = λ set holds.

@@ -2,15 +2,15 @@
 use Prim.Native.Nat.{ℕ, suc, _+_, _^_, _≤_, _<_}
 use native.Mathlib.Omega.{arith}
 use mathlib.Core.Path.{_≡_, ap, subst, _∙_}
-use mathlib.Core.Bool.{Bool, true, false, cond}
 use mathlib.Core.List.{List, [], _∷_, _++_, append-nil}
-use lib.ListN.{length}
+use lib.ListN.{length, length-append}
 use borrow.Author.Tests.{lt-ltb, le-leb}
 use Rattle.pktree.specs.Lists.{select}
 use Rattle.pktree.specs.Elements.{Forest, empty, block, _⧺_, blockAt, unlabelled}
 use Rattle.pktree.specs.Tree.{BlockOf, blocks}
 use Rattle.pktree.specs.Window.{holdsPixel, openedByPixel}
 use Rattle.pktree.proofs.Forests.{blocks-join}
+use Rattle.pktree.proofs.WindowParts.{select-join}
 use Rattle.pktree.proofs.SmallestBlocks.{none-opened, none-before, none-after}
 use Rattle.pktree.proofs.Arranged.{Arranged}
 use Rattle.store.specs.Placed.{Placed}
@@ -23,19 +23,11 @@ use Rattle.descent.proofs.Cutting.{arranged-parts}
 use Rattle.descent.proofs.SmallestLocated.{none-inside}
 use Rattle.descent.proofs.Ways.{around, seen-inside, seen-on-way}
 
--- how many blocks of two lists pass a test
-passing-join : (test : BlockOf → Bool) (l r : List BlockOf) → length (select test (l ++ r)) ≡ length (select test l) + length (select test r)
-passing-join test [] r = omega arith
-passing-join test (b ∷ l) r = go (test b) (passing-join test l r)
-  where
-    go : (t : Bool) → length (select test (l ++ r)) ≡ length (select test l) + length (select test r)
-        → length (cond t (b ∷ select test (l ++ r)) (select test (l ++ r))) ≡ length (cond t (b ∷ select test l) (select test l)) + length (select test r)
-    go true h = omega arith
-    go false h = h
-
 module _ (code : ℕ) where
   opened-join : (f g : Forest) → openedByPixel code (f ⧺ g) ≡ openedByPixel code f + openedByPixel code g
-  opened-join f g = ap (λ (l : List BlockOf). length (select (holdsPixel code) l)) (blocks-join f g) ∙ passing-join (holdsPixel code) (blocks f) (blocks g)
+  opened-join f g =
+      ap (λ (l : List BlockOf). length (select (holdsPixel code) l)) (blocks-join f g) ∙ ap length (select-join (holdsPixel code) (blocks f) (blocks g))
+      ∙ length-append (select (holdsPixel code) (blocks f)) (select (holdsPixel code) (blocks g))
 
   -- elements below the code and elements above it change nothing
   opened-beside : (k n from low high to : ℕ) (a f b : Forest) (opened : ℕ) → Arranged k n from low a → low ≤ code → Arranged k n high to b → code < high

@@ -88,7 +88,7 @@ module _ {words : List ℕ} {layout : Layout} {place : Place} {budget : ℕ} whe
       go (Full progress) m = refuses (m .right)
       go Damaged m = refuses (m .right)
       go (Known n) m = record {
-        ends = inl (record { ended = refl; found-to = yes-no-to (n .found); opened-to = omega (arith, m .case .to-budget, m .case .to-slots, ap (λ (l : Layout). l .slots) (layout-said words refl laid)) });
+        ends = inl (record { ended = refl; found-to = yes-no-to (n .found); opened-to = omega (arith, m .case .to-budget, m .case .to-slots, ap (λ (l : Layout). l .slots) (layout-said words refl laid)); no-level = refl });
         spoiled = λ s. absurd (m .case .root-opened some (spoiled-shut words usable s));
         sound = λ set holds.
             record {

@@ -1,6 +1,6 @@
 -- What a caller from another language gets: 01's number and values.
 use Prim.Native.Nat.{ℕ}
-use Rattle.promises.specs.Answer.{none, Answer}
+use Rattle.promises.specs.Answer.{none, Answer, blockTold}
 use Rattle.pkreg.specs.declared.PkAnswer.{PkAnswer}
 use Rattle.pkreg.specs.declared.PkPlace.{PkPlace}
 use Rattle.pkreg.specs.declared.PkNearest.{PkNearest}
@@ -14,13 +14,7 @@ numbers r = record { refusal = r .refusal; first = r .first; second = r .second;
 
 -- 02, P8: those of ask
 abbrev pub placeNumbers : PkPlace → Answer
-placeNumbers r =
-    record {
-      refusal = r .refusal;
-      first = r .marked;
-      second = r .opened;
-      further = record { code = r .code; level = r .level; distance = 0; limit = 0; complete = 0 };
-    }
+placeNumbers r = record { refusal = r .refusal; first = r .marked; second = r .opened; further = blockTold (r .level) (r .code) }
 
 -- 02, P5: those of nearest
 abbrev pub nearestNumbers : PkNearest → Answer

@@ -1,5 +1,5 @@
 -- 01 "Sample panels": the starred lines, by computation; and 02, P4 and P8 on one of them.
-use Prim.Native.Nat.{ℕ}
+use Prim.Native.Nat.{ℕ, _<_}
 use native.Mathlib.Omega.{arith}
 use mathlib.Core.Path.{_≡_, refl}
 use mathlib.Core.Logic.{_⊎_, inl, inr}
@@ -8,7 +8,7 @@ use Rattle.morton.specs.Code.{interleave, gatherBits}
 use Rattle.pktree.specs.PixelSet.{member}
 use Rattle.pktree.specs.Elements.{Forest, empty, pixel, gather}
 use Rattle.pktree.specs.Tree.{BlockOf, blockOf, blocks}
-use Rattle.pktree.specs.SmallestBlock.{Contains}
+use Rattle.pktree.specs.SmallestBlock.{Contains, Smallest}
 use Rattle.pktree.specs.Window.{someFrom, everyFrom}
 use Rattle.pktree.specs.Samples.{first-panel, StarredLines, TestedSingly, FirstLocated}
 use Rattle.pktree.proofs.SmallestBlocks.{NoneContains, smallest-if-none-inside}
@@ -48,16 +48,20 @@ none-of-one x f b e away i c es m h = go (List·Memᴰ·cases-cons (rw e at m))
     go (inl q) = away (rw (← q) h)
     go (inr n) = List·Memᴰ·not-nil n
 
+-- the block of level 1 at code 0 has three elements, all of them pixels
+in-block : (x : ℕ) → x < 4 → Smallest (record { order = 3; k = 3 }) (member first-panel) x 1 0
+unfolding gather
+in-block x p =
+    smallest-if-none-inside _ _ x
+    (record { of-panel = record { low = omega arith; aligned = refl; corner = omega arith }; enough = inr (omega arith) })
+    (omega arith, omega arith) (none-of-none x (gather (member first-panel) 3 1 0) refl)
+
 pub first-located : FirstLocated
 unfolding gather
 first-located =
     record {
-      at-0 = smallest-if-none-inside _ _ 0
-          (record { of-panel = record { low = omega arith; aligned = refl; corner = omega arith }; enough = inr (omega arith) })
-          (omega arith, omega arith) (none-of-none 0 (gather (member first-panel) 3 1 0) refl);
-      at-3 = smallest-if-none-inside _ _ 3
-          (record { of-panel = record { low = omega arith; aligned = refl; corner = omega arith }; enough = inr (omega arith) })
-          (omega arith, omega arith) (none-of-none 3 (gather (member first-panel) 3 1 0) refl);
+      at-0 = in-block 0 (omega arith);
+      at-3 = in-block 3 (omega arith);
       at-15 = smallest-if-none-inside _ _ 15
           (record { of-panel = record { low = omega arith; aligned = refl; corner = omega arith }; enough = inl refl })
           (omega arith, omega arith) (none-of-one 15 (gather (member first-panel) 3 3 0) (blockOf 1 0 (pixel 0 (pixel 1 (pixel 2 empty)))) refl (λ h. absurd (omega (arith, h .1))));

@@ -1,14 +1,14 @@
 -- What holds of every call whatever the words are: zeros beside a refusal, bounds of what is answered, and what is left as it was.
 use Prim.Native.Nat.{ℕ, min, _≤_, _<_}
 use native.Mathlib.Omega.{arith}
-use mathlib.Core.Path.{_≡_, ap, sym, _∙_}
+use mathlib.Core.Path.{_≡_, refl, ap, sym, subst, _∙_}
 use mathlib.Core.Logic.{_⊎_, inl, inr, ⊎-elim}
 use mathlib.Core.List.{List}
 use lib.ListN.{length, getD, drop}
 use Rattle.measures.specs.declared.sizes.Sizes.{Sizes}
 use Rattle.measures.specs.Sizes.{sizesOf, storeWords}
 use Rattle.image.specs.Held.{mostBytes}
-use Rattle.promises.specs.Answer.{Further, none, Answer, refused, accepted}
+use Rattle.promises.specs.Answer.{Further, none, Answer, refused, accepted, blockTold}
 use Rattle.promises.specs.Effect.{Effect, effect, Returns, passed, stopped}
 use Rattle.promises.specs.Walk.{Accepts, Locates, Searches}
 use Rattle.promises.specs.Change.{Done, Disabled}
@@ -109,6 +109,7 @@ pub record PlaceBounded (order : ℕ) (a : Answer) : Type 0 where
   pub marked-to : a .first ≤ 1
   pub opened-to : a .second ≤ order
   pub level-to : a .further .level ≤ order
+  pub no-search : a .further ≡ blockTold (a .further .level) (a .further .code)
 
 module _ {order : ℕ} {a : Answer} where
   refused-place : {n : ℕ} → a ≡ refused n → PlaceBounded order a
@@ -117,11 +118,12 @@ module _ {order : ℕ} {a : Answer} where
     marked-to = omega (arith, first-of i);
     opened-to = omega (arith, second-of i);
     level-to = omega (arith, ap (λ (f : Further). f .level) (further-of i));
+    no-search = subst (λ (f : Further). f ≡ blockTold (f .level) (f .code)) (sym (further-of i)) refl;
   }
 
   walk-place : {before after : List ℕ} → Locates order (effect a before after) ⊎ ((a ≡ refused 13) × (after ≡ before)) → PlaceBounded order a
   walk-place ends =
-      ⊎-elim (λ l. record { zeros = λ z. absurd (z (l .answered)); marked-to = l .marked-to; opened-to = l .opened-to; level-to = l .level-to }) (λ d. refused-place (d .0)) ends
+      ⊎-elim (λ l. record { zeros = λ z. absurd (z (l .answered)); marked-to = l .marked-to; opened-to = l .opened-to; level-to = l .level-to; no-search = l .no-search }) (λ d. refused-place (d .0)) ends
 
 pub ask-bounded : {words : List ℕ} {x y : ℕ} {a : Answer} → AskMeets words x y a → PlaceBounded (sizesOf words .order) a
 ask-bounded m = ⊎-elim (λ c. refused-place (c .returns .is)) (λ w. walk-place (w .ends)) (pixel-ends m)
@@ -131,13 +133,14 @@ pub record SearchBounded (opened : ℕ) (a : Answer) : Type 0 where
   pub zeros : (a .refusal ≡ 0 → ⊥) → Zeros a
   pub found-to : a .first ≤ 1
   pub opened-to : a .second ≤ opened
+  pub no-level : a .further .level ≡ 0
 
 module _ {opened : ℕ} {a : Answer} where
   refused-search : {n : ℕ} → a ≡ refused n → SearchBounded opened a
-  refused-search {n} i = record { zeros = λ z. zeros-beside n i; found-to = omega (arith, first-of i); opened-to = omega (arith, second-of i) }
+  refused-search {n} i = record { zeros = λ z. zeros-beside n i; found-to = omega (arith, first-of i); opened-to = omega (arith, second-of i); no-level = ap (λ (f : Further). f .level) (further-of i) }
 
   walk-search : {before after : List ℕ} → Searches opened (effect a before after) ⊎ ((a ≡ refused 13) × (after ≡ before)) → SearchBounded opened a
-  walk-search ends = ⊎-elim (λ s. record { zeros = λ z. absurd (z (s .ended)); found-to = s .found-to; opened-to = s .opened-to }) (λ d. refused-search (d .0)) ends
+  walk-search ends = ⊎-elim (λ s. record { zeros = λ z. absurd (z (s .ended)); found-to = s .found-to; opened-to = s .opened-to; no-level = s .no-level }) (λ d. refused-search (d .0)) ends
 
 pub nearest-bounded : {words : List ℕ} {x y budget : ℕ} {a : Answer} → NearestMeets words x y budget a → SearchBounded (min budget (slotsIn words)) a
 nearest-bounded m =

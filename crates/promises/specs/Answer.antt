@@ -46,12 +46,10 @@ searched n =
       further = record { code = n .code; level = 0; distance = n .distance; limit = n .limit; complete = yesNo (n .complete) };
     }
 
--- 02, P8: marked or not, the number of blocks opened, and the level and code of a block
+-- 02, P8: a block by its level and code, and nothing of a search
+abbrev pub blockTold : ℕ → ℕ → Further
+blockTold level block = record { code = block; level = level; distance = 0; limit = 0; complete = 0 }
+
+-- marked or not, the number of blocks opened, and the level and code of a block
 abbrev pub located : Bool → ℕ → ℕ → ℕ → Answer
-located marked opened level block =
-    record {
-      refusal = 0;
-      first = yesNo marked;
-      second = opened;
-      further = record { code = block; level = level; distance = 0; limit = 0; complete = 0 };
-    }
+located marked opened level block = record { refusal = 0; first = yesNo marked; second = opened; further = blockTold level block }

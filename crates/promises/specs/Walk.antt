@@ -6,7 +6,7 @@ use mathlib.Core.List.{List}
 use lib.ListN.{getD}
 use Rattle.measures.specs.Sizes.{storeWords, sizesOf}
 use Rattle.store.specs.Sound.{Holds}
-use Rattle.promises.specs.Answer.{none, refused}
+use Rattle.promises.specs.Answer.{none, refused, blockTold}
 use Rattle.promises.specs.Effect.{Effect}
 
 -- 01: words 0 to 3 right and all others FFFFFFFF hexadecimal; words past the formula may be anything
@@ -26,12 +26,14 @@ pub record Locates (order : ℕ) (e : Effect) : Type 0 where
   pub marked-to : e .answer .first ≤ 1
   pub opened-to : e .answer .second ≤ order
   pub level-to : e .answer .further .level ≤ order
+  pub no-search : e .answer .further ≡ blockTold (e .answer .further .level) (e .answer .further .code)
 
 -- 02, P5: a search ended, with at most so many blocks opened
 pub record Searches (opened : ℕ) (e : Effect) : Type 0 where
   pub ended : e .answer .refusal ≡ 0
   pub found-to : e .answer .first ≤ 1
   pub opened-to : e .answer .second ≤ opened
+  pub no-level : e .answer .further .level ≡ 0
 
 -- 13, with zeros: never on a sound store, always on a spoiled one
 pub record Walks (words : List ℕ) (Answers Damaged : Effect → Type 0) (Right : List ℕ → Effect → Type 0) (e : Effect) : Type 0 where
