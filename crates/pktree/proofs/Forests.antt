@@ -3,12 +3,13 @@ use Prim.Native.Nat.{ℕ, zero, suc, _+_, _*_, _^_, _≤_, _<_}
 use native.Mathlib.Omega.{arith}
 use mathlib.Core.Path.{_≡_, refl, ap, subst, sym}
 use mathlib.Core.Bool.{Bool, true, false, not, cond}
-use mathlib.Core.List.{_++_, append-assoc}
+use mathlib.Core.Logic.{⊎-elim}
+use mathlib.Core.List.{_∷_, _++_, append-assoc, List·Memᴰ, List·Memᴰ·cases-cons, List·Memᴰ·append-cases}
 use lib.Dec.{T, ltb, ltb→lt, nltb→le}
 use lib.ListN.{length, length-append}
 use borrow.Author.Tests.{lt-ltb, le-ltb}
 use Rattle.pktree.specs.Elements.{ForestOf, Forest, empty, pixel, block, blockAt, _⧺_, size, give, gather}
-use Rattle.pktree.specs.Tree.{blocks, pixels}
+use Rattle.pktree.specs.Tree.{BlockOf, blockOf, blocks, pixels}
 
 pub size-join : {A : Type 0} (f g : ForestOf A) → size (f ⧺ g) ≡ size f + size g
 size-join empty g = omega arith
@@ -40,6 +41,11 @@ pub blocks-join : (f g : Forest) → blocks (f ⧺ g) ≡ blocks f ++ blocks g
 blocks-join empty g = refl
 blocks-join (pixel c f) g = blocks-join f g
 blocks-join (blockAt u i c es f) g = rw (blocks-join f g, append-assoc (blocks es) (blocks f) (blocks g))
+
+-- a block of elements of which the first is a block is that one, or inside it, or of those after it
+pub block-cases : {b : BlockOf} {goal : Type 0} {i c : ℕ} (es f : Forest) → List·Memᴰ b (blockOf i c es ∷ (blocks es ++ blocks f))
+    → (b ≡ blockOf i c es → goal) → (List·Memᴰ b (blocks es) → goal) → (List·Memᴰ b (blocks f) → goal) → goal
+block-cases es f m it inside after = ⊎-elim it (λ t. ⊎-elim inside after (List·Memᴰ·append-cases (blocks es) t)) (List·Memᴰ·cases-cons m)
 
 pub join-assoc : {A : Type 0} (f g h : ForestOf A) → (f ⧺ g) ⧺ h ≡ f ⧺ (g ⧺ h)
 join-assoc empty g h = refl

@@ -6,11 +6,11 @@ use native.Mathlib.Decide.{decLt}
 use mathlib.Core.Path.{_≡_, refl, ap, subst, sym}
 use mathlib.Core.Bool.{Bool}
 use mathlib.Core.Logic.{_⊎_, inl, inr, _↔_}
-use mathlib.Core.List.{[], _++_, List·Memᴰ, List·Memᴰ·head, List·Memᴰ·tail, List·Memᴰ·not-nil, List·Memᴰ·cases-cons, List·Memᴰ·append-cases, Memᴰ·append-left, Memᴰ·append-right}
+use mathlib.Core.List.{[], _++_, List·Memᴰ, List·Memᴰ·head, List·Memᴰ·tail, List·Memᴰ·not-nil, List·Memᴰ·append-cases, Memᴰ·append-left, Memᴰ·append-right}
 use Rattle.pktree.specs.Panel.{Panel, Aligned, Block}
 use Rattle.pktree.specs.Elements.{Forest, empty, pixel, block, _⧺_, size, give, gather}
 use Rattle.pktree.specs.Tree.{Instantiated, tree, BlockOf, blockOf, blocks}
-use Rattle.pktree.proofs.Forests.{blocks-join, cond-case, give-case}
+use Rattle.pktree.proofs.Forests.{blocks-join, block-cases, cond-case, give-case}
 use Rattle.pktree.proofs.Alignment.{pow-pos, aligned-root, aligned-plus, aligned-next, aligned-down, blocks-nest}
 
 -- an aligned block of a level below n, between from and to, that has k or more elements, and those are es
@@ -61,15 +61,7 @@ abbrev ItOrInside : ℕ → ℕ → Forest → BlockOf → Type 0
 ItOrInside i c f b = (b ≡ blockOf i c f) ⊎ List·Memᴰ b (blocks f)
 
 one-only : (i c : ℕ) (f : Forest) (b : BlockOf) → List·Memᴰ b (blocks (block i c f empty)) → ItOrInside i c f b
-one-only i c f b m = go (List·Memᴰ·cases-cons m)
-  where
-    inside : List·Memᴰ b (blocks f) ⊎ List·Memᴰ b [] → List·Memᴰ b (blocks f)
-    inside (inl h) = h
-    inside (inr h) = absurd (List·Memᴰ·not-nil h)
-
-    go : (b ≡ blockOf i c f) ⊎ List·Memᴰ b (blocks f ++ []) → ItOrInside i c f b
-    go (inl e) = inl e
-    go (inr h) = inr (inside (List·Memᴰ·append-cases (blocks f) h))
+one-only i c f b m = block-cases f empty m inl inr (λ t. absurd (List·Memᴰ·not-nil t))
 
 one-all : (i c : ℕ) (f : Forest) (b : BlockOf) → ItOrInside i c f b → List·Memᴰ b (blocks (block i c f empty))
 one-all i c f b (inl e) = List·Memᴰ·head e

@@ -5,7 +5,7 @@ use native.Mathlib.Decide.{decLt}
 use mathlib.Core.Path.{_≡_, refl, ap, subst, sym, _∙_}
 use mathlib.Core.Bool.{Bool, true, false, and-eq-true-iff}
 use mathlib.Core.Logic.{_⊎_, inl, inr}
-use mathlib.Core.List.{List, [], _∷_, _++_, List·Memᴰ, List·Memᴰ·head, List·Memᴰ·tail, List·Memᴰ·not-nil, List·Memᴰ·cases-cons, List·Memᴰ·append-cases, Memᴰ·append-left, Memᴰ·append-right}
+use mathlib.Core.List.{List, [], _∷_, List·Memᴰ, List·Memᴰ·head, List·Memᴰ·tail, List·Memᴰ·not-nil, List·Memᴰ·append-cases, Memᴰ·append-left, Memᴰ·append-right}
 use lib.Dec.{leb, ltb}
 use lib.ListN.{length}
 use borrow.Author.Tests.{leb-true, ltb-true}
@@ -18,7 +18,7 @@ use Rattle.pktree.specs.SmallestBlock.{Contains, Smallest, pixelElements
 use Rattle.pktree.specs.Window.{holdsPixel, openedByPixel}
 use Rattle.pktree.proofs.Alignment.{pow-pos, blockCode, blockCode-aligned, blockCode-le, blockCode-lt, blockCode-unique, block-inside}
 use Rattle.pktree.proofs.Arranged.{Arranged, arranged-le, member-append, member-after, member-before}
-use Rattle.pktree.proofs.Forests.{blocks-join}
+use Rattle.pktree.proofs.Forests.{blocks-join, block-cases}
 use Rattle.pktree.proofs.LocalLaw.{gather-is-local}
 use Rattle.pktree.proofs.Pixels.{pixels-of-gather, member-of-marked}
 use Rattle.pktree.proofs.InTree.{block-ends, gather-has-many}
@@ -27,41 +27,22 @@ use Rattle.pktree.proofs.InTree.{block-ends, gather-has-many}
 pub inner-blocks : {i c : ℕ} {es : Forest} {b : BlockOf} (f : Forest) → List·Memᴰ (blockOf i c es) (blocks f) → List·Memᴰ b (blocks es) → List·Memᴰ b (blocks f)
 inner-blocks empty m n = absurd (List·Memᴰ·not-nil m)
 inner-blocks (pixel d f) m n = inner-blocks f m n
-inner-blocks {i} {c} {es} {b} (blockAt u j d fs f) m n = go (List·Memᴰ·cases-cons m) (λ t. inner-blocks fs t n) (λ t. inner-blocks f t n)
-  where
-    later : List·Memᴰ (blockOf i c es) (blocks fs) ⊎ List·Memᴰ (blockOf i c es) (blocks f)
-        → (List·Memᴰ (blockOf i c es) (blocks fs) → List·Memᴰ b (blocks fs)) → (List·Memᴰ (blockOf i c es) (blocks f) → List·Memᴰ b (blocks f)) → List·Memᴰ b (blocks fs ++ blocks f)
-    later (inl t) inside beside = Memᴰ·append-left (blocks f) (inside t)
-    later (inr t) inside beside = Memᴰ·append-right (blocks fs) (beside t)
-
-    go : (blockOf i c es ≡ blockOf j d fs) ⊎ List·Memᴰ (blockOf i c es) (blocks fs ++ blocks f)
-        → (List·Memᴰ (blockOf i c es) (blocks fs) → List·Memᴰ b (blocks fs)) → (List·Memᴰ (blockOf i c es) (blocks f) → List·Memᴰ b (blocks f))
-        → List·Memᴰ b (blockOf j d fs ∷ (blocks fs ++ blocks f))
-    go (inl e) inside beside = List·Memᴰ·tail (Memᴰ·append-left (blocks f) (subst (λ (g : Forest). List·Memᴰ b (blocks g)) (ap (λ (a : BlockOf). a .elements) e) n))
-    go (inr t) inside beside = List·Memᴰ·tail (later (List·Memᴰ·append-cases (blocks fs) t) inside beside)
+inner-blocks {b = b} (blockAt u j d fs f) m n =
+    List·Memᴰ·tail (block-cases fs f m
+    (λ e. Memᴰ·append-left (blocks f) (subst (λ (g : Forest). List·Memᴰ b (blocks g)) (ap (λ (a : BlockOf). a .elements) e) n))
+    (λ t. Memᴰ·append-left (blocks f) (inner-blocks fs t n))
+    (λ t. Memᴰ·append-right (blocks fs) (inner-blocks f t n)))
 
 -- blocks lie where their elements do
 blocks-between : {i c : ℕ} {es : Forest} (k n from to : ℕ) (f : Forest) → Arranged k n from to f → List·Memᴰ (blockOf i c es) (blocks f) → (from ≤ c) × (c + 4 ^ i ≤ to)
 blocks-between k n from to empty h m = absurd (List·Memᴰ·not-nil m)
 blocks-between k n from to (pixel d f) h m = let r = blocks-between k n (suc d) to f (h .1) m in (omega (arith, r .0), r .1)
-blocks-between {i} {c} {es} k n from to (blockAt u j d fs f) h m =
-    go (List·Memᴰ·cases-cons m) (λ t. blocks-between k j d (d + 4 ^ j) fs (h .6) t) (λ t. blocks-between k n (d + 4 ^ j) to f (h .7) t)
-  where
-    ends : d + 4 ^ j ≤ to
-    ends = arranged-le k n (d + 4 ^ j) to f (h .7)
-
-    later : List·Memᴰ (blockOf i c es) (blocks fs) ⊎ List·Memᴰ (blockOf i c es) (blocks f) → (List·Memᴰ (blockOf i c es) (blocks fs) → (d ≤ c) × (c + 4 ^ i ≤ d + 4 ^ j))
-        → (List·Memᴰ (blockOf i c es) (blocks f) → (d + 4 ^ j ≤ c) × (c + 4 ^ i ≤ to)) → (from ≤ c) × (c + 4 ^ i ≤ to)
-    later (inl t) inside beside = let r = inside t in (omega (arith, r .0), omega (arith, r .1, ends))
-    later (inr t) inside beside = let r = beside t in (omega (arith, r .0), r .1)
-
-    go : (blockOf i c es ≡ blockOf j d fs) ⊎ List·Memᴰ (blockOf i c es) (blocks fs ++ blocks f) → (List·Memᴰ (blockOf i c es) (blocks fs) → (d ≤ c) × (c + 4 ^ i ≤ d + 4 ^ j))
-        → (List·Memᴰ (blockOf i c es) (blocks f) → (d + 4 ^ j ≤ c) × (c + 4 ^ i ≤ to)) → (from ≤ c) × (c + 4 ^ i ≤ to)
-    go (inl e) inside beside =
-        let p : i ≡ j = ap (λ (a : BlockOf). a .level) e in
-        let q : c ≡ d = ap (λ (a : BlockOf). a .code) e in
-        rw (p, q) (h .0, ends)
-    go (inr t) inside beside = later (List·Memᴰ·append-cases (blocks fs) t) inside beside
+blocks-between k n from to (blockAt u j d fs f) h m =
+    let ends : d + 4 ^ j ≤ to = arranged-le k n (d + 4 ^ j) to f (h .7) in
+    block-cases fs f m
+    (λ e. rw (ap (λ (a : BlockOf). a .level) e, ap (λ (a : BlockOf). a .code) e) (h .0, ends))
+    (λ t. let r = blocks-between k j d (d + 4 ^ j) fs (h .6) t in (omega (arith, r .0), omega (arith, r .1, ends)))
+    (λ t. let r = blocks-between k n (d + 4 ^ j) to f (h .7) t in (omega (arith, r .0), r .1))
 
 -- no block among these elements, nor inside one, contains the pixel
 abbrev pub NoneContains : ℕ → Forest → Type 0

@@ -40,7 +40,8 @@ use Rattle.update.specs.Changed.{OnePixel, comes, goes, exchanged, CanCh
 use Rattle.renumbering.specs.Renumber.{pathSlots, CanRenumber, PathRenumbered}
 use Rattle.propagate.specs.Propagate.{CanPropagate, PropagateMeets}
 use Rattle.renumbering.proofs.Renumbering.{fits-renumbered, kept-renumbered}
-use Rattle.update.proofs.ChangeBegins.{settingOf, pixelsAt, at-most-pixel, change-begins}
+use Rattle.update.proofs.PixelsAt.{pixelsAt, at-most-pixel}
+use Rattle.update.proofs.ChangeBegins.{settingOf, change-begins}
 
 module _ (before after : List ℕ) (usable : UsableStore before) (code : ℕ) (target : List ℕ) (few : length target ≤ sizesOf before .most) (kept : Kept (layoutOf (sizesOf before)) before after) where
   abbrev width : ℕ
