@@ -1,5 +1,8 @@
 -- `pkreg::pk_list` meets its contract: each arm hands over the numbers of its case.
 use borrow.Author.Needs.{needs}
+use Rattle.promises.specs.Calls.{ListMeets}
+use Rattle.answers.specs.Answer.{listAnswer}
+use Rattle.pkreg.proofs.Handed.{arm-handed}
 use Rattle.pkreg.proofs.pk_list.Statement.{statement}
 use Rattle.pkreg.proofs.pk_list.Tie as tie
 
@@ -15,8 +18,8 @@ pk-list-spec =
     (λ c. search needs)
     (λ c κs. search needs)
     (λ c. search needs)
-    (λ c. let arm = c .before .before in rw (arm .found .given .1, ← c .accepted .ensures) at (arm .before .before .before .before .list .ensures))
+    (λ c. let arm = c .before .before in arm-handed listAnswer (ListMeets _ _ _ _ _ _ _) (arm .before .before .before .before .list .ensures) (arm .found .given .1) (c .accepted .ensures))
     (λ c. search needs)
-    (λ c. let arm = c .before .before in rw (arm .needed .given .1, ← c .short .ensures) at (arm .before .before .before .before .list .ensures))
+    (λ c. let arm = c .before .before in arm-handed listAnswer (ListMeets _ _ _ _ _ _ _) (arm .before .before .before .before .list .ensures) (arm .needed .given .1) (c .short .ensures))
     (λ c. search needs)
-    (λ c. let arm = c .before .before in rw (arm .refusal .given .1, ← c .refused .ensures) at (arm .before .before .before .before .list .ensures)))
+    (λ c. let arm = c .before .before in arm-handed listAnswer (ListMeets _ _ _ _ _ _ _) (arm .before .before .before .before .list .ensures) (arm .refusal .given .1) (c .refused .ensures)))

@@ -1,6 +1,9 @@
 -- `pkreg::pk_save` meets its contract: each arm hands over the numbers of its case, and the lengths fit 32 bits.
 use borrow.Author.Needs.{needs}
 use Rattle.pkreg.proofs.Fits.{saved-fits, short-fits}
+use Rattle.promises.specs.Calls.{SaveMeets}
+use Rattle.answers.specs.Answer.{saveAnswer}
+use Rattle.pkreg.proofs.Handed.{arm-handed}
 use Rattle.pkreg.proofs.pk_save.Statement.{statement}
 use Rattle.pkreg.proofs.pk_save.Tie as tie
 
@@ -18,8 +21,8 @@ pk-save-spec =
     (λ c. search needs)
     (λ c κs. search needs)
     (λ c. search needs)
-    (λ c. let arm = c .before .before in rw (arm .length .given .1, ← c .accepted .ensures) at (arm .before .before .before .before .save .ensures))
+    (λ c. let arm = c .before .before in arm-handed saveAnswer (SaveMeets _ _ _) (arm .before .before .before .before .save .ensures) (arm .length .given .1) (c .accepted .ensures))
     (λ c. search needs)
-    (λ c. let arm = c .before .before in rw (arm .needed .given .1, ← c .short .ensures) at (arm .before .before .before .before .save .ensures))
+    (λ c. let arm = c .before .before in arm-handed saveAnswer (SaveMeets _ _ _) (arm .before .before .before .before .save .ensures) (arm .needed .given .1) (c .short .ensures))
     (λ c. search needs)
-    (λ c. let arm = c .before .before in rw (arm .refusal .given .1, ← c .refused .ensures) at (arm .before .before .before .before .save .ensures)))
+    (λ c. let arm = c .before .before in arm-handed saveAnswer (SaveMeets _ _ _) (arm .before .before .before .before .save .ensures) (arm .refusal .given .1) (c .refused .ensures)))
