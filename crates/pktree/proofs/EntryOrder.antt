@@ -11,7 +11,7 @@ use Rattle.pktree.specs.Lists.{Every}
 use Rattle.pktree.specs.Panel.{Panel, Valid}
 use Rattle.pktree.specs.Elements.{Forest, empty, pixel, blockAt, _⧺_, gather}
 use Rattle.pktree.specs.Tree.{tree, blocks, pixels}
-use Rattle.pktree.specs.Entries.{Entry, entries, pixelEntries}
+use Rattle.pktree.specs.Entries.{Entry, entry, entries, pixelEntries}
 use Rattle.pktree.proofs.Alignment.{pow-pos, aligned-root}
 use Rattle.pktree.proofs.Arranged.{Arranged, arranged-le}
 use Rattle.pktree.proofs.LocalLaw.{gather-is-local}
@@ -29,13 +29,15 @@ in-order k n from to (pixel c f) j d rest g p q t r = (
   (λ h. t (omega arith) .1),
   in-order k n (suc c) to f 0 c rest (g .1) (omega arith) (arranged-le k n (suc c) to f (g .1)) (λ h. absurd (omega arith)) r,
 )
-in-order k n from to (blockAt u i c es f) j d rest g p q t r = (
-  omega arith,
-  (λ h. let u = t (omega arith) in omega arith),
-  rw (append-assoc (entries es) (entries f) rest)
-      (in-order k i c (c + 4 ^ i) es i c (entries f ++ rest) (g .6) (omega arith) (omega (arith, pow-pos i)) (λ h. (omega arith, g .2))
-      (λ j′ d′ h. in-order k n (c + 4 ^ i) to f j′ d′ rest (g .7) (omega arith) (omega (arith, arranged-le k n (c + 4 ^ i) to f (g .7))) (λ v. absurd (omega arith)) r)),
-)
+in-order k n from to (blockAt u i c es f) j d rest g p q t r =
+    let it-first : InOrder j d (entry i c ∷ ((entries es ++ entries f) ++ rest)) = (
+      omega arith,
+      (λ h. let u = t (omega arith) in omega arith),
+      rw (append-assoc (entries es) (entries f) rest)
+          (in-order k i c (c + 4 ^ i) es i c (entries f ++ rest) (g .6) (omega arith) (omega (arith, pow-pos i)) (λ h. (omega arith, g .2))
+          (λ j′ d′ h. in-order k n (c + 4 ^ i) to f j′ d′ rest (g .7) (omega arith) (omega (arith, arranged-le k n (c + 4 ^ i) to f (g .7))) (λ v. absurd (omega arith)) r)),
+    ) in
+    it-first
 
 module _ (panel : Panel) (M : ℕ → Bool) (valid : Valid panel) where
   elements-arranged : Arranged (panel .k) (panel .order) 0 (0 + 4 ^ panel .order) (gather M (panel .k) (panel .order) 0)
