@@ -14,52 +14,53 @@ abbrev μ-loop : tie.MeasureT-loop
 loop-holds : tie.Need-loop-holds Inv-loop μ-loop
 loop-holds c = loop-starts (c .before .before .before .before .pre .3)
 
--- the places of a turn: where it begins, where there is room, where the least entry was taken out, and where its distance is known
-abbrev start : tie.At-loop Inv-loop μ-loop → tie.Start Inv-loop μ-loop
-start l = l .before .before .before .before .before
-
-abbrev taken-of : tie.After-struct-known2 Inv-loop μ-loop → tie.After-take-least Inv-loop μ-loop
-taken-of t = t .before .before .before .before .before .before
-
-abbrev loop-of : tie.After-struct-known2 Inv-loop μ-loop → tie.At-loop Inv-loop μ-loop
-loop-of t = taken-of t .before .before .before .before .before
-
-abbrev tested-of : tie.After-open-block Inv-loop μ-loop → tie.After-struct-known2 Inv-loop μ-loop
-tested-of o = o .before .before .before .before .before
-
+-- A place of the turn is found by its type: where the turn begins, where there is room, where the least entry was taken out, and where the block was opened.
 returns : tie.Need-returns Inv-loop μ-loop
 returns c = loop-full (c .before .before .loop .inv) (c .if1 .taken)
 
 returns-2 : tie.Need-returns-2 Inv-loop μ-loop
-returns-2 c = let t = c .before .before in loop-complete (loop-of t .loop .inv) (taken-of t .take-least .ensures) (c .before .if2 .taken) (c .known .ensures)
+returns-2 c =
+    let taken : tie.After-take-least Inv-loop μ-loop = search in
+    let turn : tie.At-loop Inv-loop μ-loop = search in
+    loop-complete (turn .loop .inv) (taken .take-least .ensures) (c .before .if2 .taken) (c .known .ensures)
 
 returns-3 : tie.Need-returns-3 Inv-loop μ-loop
 returns-3 c =
-    let t = c .before .before .before in
-    loop-spent (loop-of t .loop .inv) (taken-of t .take-least .ensures) (c .before .if3 .taken) (c .before .before .if2 .left) (c .known2 .ensures)
+    let taken : tie.After-take-least Inv-loop μ-loop = search in
+    let turn : tie.At-loop Inv-loop μ-loop = search in
+    loop-spent (turn .loop .inv) (taken .take-least .ensures) (c .before .if3 .taken) (c .before .before .if2 .left) (c .known2 .ensures)
 
 open-block-requires : tie.Need-open-block-requires Inv-loop μ-loop
 open-block-requires c κs =
-    let t = c .before .before .before .before in
-    let taken = taken-of t .take-least .ensures in
-    let room = taken-of t .before .before .before .if1 .left in
-    let said = start (loop-of t) .pre in
-    (said .1, said .2, keys-lent (loop-of t .loop .inv) taken room, tags-lent (loop-of t .loop .inv) taken room, taken .heap)
+    let taken : tie.After-take-least Inv-loop μ-loop = search in
+    let room : tie.Else1 Inv-loop μ-loop = search in
+    let turn : tie.At-loop Inv-loop μ-loop = search in
+    let start : tie.Start Inv-loop μ-loop = search in
+    let least = taken .take-least .ensures in
+    (start .pre .1, start .pre .2, keys-lent (turn .loop .inv) least (room .if1 .left), tags-lent (turn .loop .inv) least (room .if1 .left), least .heap)
 
 add-opened : tie.Need-add-opened Inv-loop μ-loop
-add-opened c = let o = c .before .before .before .before .before .before .before in omega (arith, o .before .before .before .if3 .left, start (loop-of (tested-of o)) .fits .budget)
+add-opened c =
+    let unspent : tie.Else3 Inv-loop μ-loop = search in
+    let turn : tie.At-loop Inv-loop μ-loop = search in
+    let start : tie.Start Inv-loop μ-loop = search in
+    omega (arith, unspent .if3 .left, start .fits .budget)
 
 loop-again : tie.Need-loop-again Inv-loop μ-loop
 loop-again c =
-    let o = c .before .before .before .before .before .before .before in
-    let t = tested-of o in
-    loop-goes-on (loop-of t .loop .inv) (taken-of t .take-least .ensures) (o .open-block .ensures) (start (loop-of t) .pre .0) (c .before .nearest .given .1) (o .before .before .before .if3 .left) (o .before .before .before .before .if2 .left)
+    let opened : tie.After-open-block Inv-loop μ-loop = search in
+    let unspent : tie.Else3 Inv-loop μ-loop = search in
+    let taken : tie.After-take-least Inv-loop μ-loop = search in
+    let turn : tie.At-loop Inv-loop μ-loop = search in
+    let start : tie.Start Inv-loop μ-loop = search in
+    loop-goes-on (turn .loop .inv) (taken .take-least .ensures) (opened .open-block .ensures) (start .pre .0) (c .before .nearest .given .1) (unspent .if3 .left) (unspent .before .if2 .left)
 
 returns-4 : tie.Need-returns-4 Inv-loop μ-loop
 returns-4 c =
-    let o = c .before .before .before .before .before .before in
-    let t = tested-of o in
-    loop-damaged (loop-of t .loop .inv) (taken-of t .take-least .ensures) (o .open-block .ensures) (c .enum-told .given .1)
+    let opened : tie.After-open-block Inv-loop μ-loop = search in
+    let taken : tie.After-take-least Inv-loop μ-loop = search in
+    let turn : tie.At-loop Inv-loop μ-loop = search in
+    loop-damaged (turn .loop .inv) (taken .take-least .ensures) (opened .open-block .ensures) (c .enum-told .given .1)
 
 returns-5 : tie.Need-returns-5 Inv-loop μ-loop
 returns-5 c = loop-over (c .before .before .before .loop .inv) (c .before .before .loop-test .left) (c .before .distance-shown .ensures) (c .known3 .ensures)
