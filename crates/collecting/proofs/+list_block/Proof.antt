@@ -8,7 +8,6 @@ use mathlib.Core.Logic.{⊎-elim}
 use lib.ListN.{length}
 use Rattle.walks.proofs.LoopTurns.{element-there, next-fits as turn-fits, fewer-left}
 use Rattle.walks.proofs.Walks.{InLoop, loop-turns, turns-pixel}
-use Rattle.windows.specs.Corners.{windowBetween}
 use Rattle.query.specs.Counting.{CanQuery}
 use Rattle.query.proofs.Opens.{list-opens}
 use Rattle.query.proofs.Openings.{next-below, next-begins, next-fits}
@@ -57,9 +56,7 @@ pub +list-block-spec : {M : Type 1} → statement M
     (λ c. search (needs, next-fits))
     (λ c.
     let o = c .before .before .before .before in
-    let start = o .before .before .before .before .before .before .before in
-    let walk = list-walk (elements-additive (list-opens (windowBetween (start .args .range .corners)))) in
-    (next-begins (o .open-next .ensures) (c .before .before .count .given .1) (c .part-of .ensures) walk, start .pre .1, refl))
+    (next-begins (o .open-next .ensures) (c .before .before .count .given .1) (c .part-of .ensures) (list-walk (elements-additive (list-opens _))), search needs, refl))
     (λ c κs. search needs)
     (λ c κs. let turn = c .before .before in element-there (turn .before .loop .inv .0) (turn .loop-test .taken))
     (λ c. c .match2 .keys1)
@@ -67,11 +64,13 @@ pub +list-block-spec : {M : Type 1} → statement M
     (λ c. c .match2 .keys2)
     (λ c κs. search needs)
     (λ c κs.
-    let shared = c .before .before .before .before in
-    let told = shared .before .before .before in
-    let l = told .before .before .before .before .before .loop .inv in
-    let begun = told .before .before .before .before .before .before .before .before .before .before in
-    let start = begun .before .before .before .before .before .before .before in
+    let met = c .before .before .before .before in
+    let element = met .before .before .before .before in
+    let turn = element .before .before .before .before in
+    let l = turn .loop .inv in
+    let opened = turn .before .before .before .before .before in
+    let asked = opened .before .before in
+    let start = asked .before .before .before .before .before in
     (omega (arith, l .0 .slot-entered .level-below, start .pre .0), l .1))
     (λ c. let turn = c .before .before .before .before in turn-fits (turn .before .loop .inv .0) (turn .loop-test .taken))
     (λ c. fewer-left (c .before .before .before .before .loop-test .taken))
@@ -82,21 +81,19 @@ pub +list-block-spec : {M : Type 1} → statement M
     let below = turn .loop-test .taken in
     let is = c .before .element-at .ensures in
     let one = test .wrapping-add-u32 .ensures in
-    let begun = turn .before .before .before .before .before .before in
-    let range = begun .before .before .before .before .before .before .before .args .range in
-    let walk = list-walk (elements-additive (list-opens (windowBetween (range .corners)))) in
+    let walk = list-walk (elements-additive (list-opens _)) in
     let ordered = l .1 .ordered in
     ⊎-elim (λ w. (
-      turns-pixel (l .0) below is (all-are (w .8) (w .9) (w .11) (w .10)) walk (w .1 .given .1) (pixel-listed (range .corners) ordered one (l .1 .most-to) (w .5 .ensures)),
+      turns-pixel (l .0) below is (all-are (w .8) (w .9) (w .11) (w .10)) walk (w .1 .given .1) (pixel-listed _ ordered one (l .1 .most-to) (w .5 .ensures)),
       l .1,
       ap length (w .8) ∙ w .5 .ensures .long ∙ l .2,
     ))
     (⊎-elim (λ w. (
-      loop-turns (l .0) below is (all-are (w .11) (w .12) (w .14) (w .13)) walk (block-listed range ordered one (w .1 .given .1) (w .3 .ensures) (w .4 .taken) (w .8 .ensures)),
+      loop-turns (l .0) below is (all-are (w .11) (w .12) (w .14) (w .13)) walk (block-listed _ ordered one (w .1 .given .1) (w .3 .ensures) (w .4 .taken) (w .8 .ensures)),
       l .1,
       ap length (w .11) ∙ w .8 .ensures .long ∙ l .2,
     ))
-    (λ w. (loop-turns (l .0) below is (all-are (w .5) (w .6) (w .8) (w .7)) walk (block-skipped range ordered one (w .1 .given .1) (w .3 .ensures) (w .4 .left)), l .1, ap length (w .5) ∙ l .2)))
+    (λ w. (loop-turns (l .0) below is (all-are (w .5) (w .6) (w .8) (w .7)) walk (block-skipped _ ordered one (w .1 .given .1) (w .3 .ensures) (w .4 .left)), l .1, ap length (w .5) ∙ l .2)))
     (c .match2 .came))
     (λ c. search needs)
     (λ c. search (needs, list-whole))
