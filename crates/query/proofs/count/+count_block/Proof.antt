@@ -63,12 +63,13 @@ pub +count-block-spec : {M : Type 1} → statement M
     (λ c.
     let test = c .before .before in
     let turn = test .before .before in
-    let l = turn .before .loop .inv in
+    let entered = turn .before in
+    let l = entered .loop .inv in
     let below = turn .loop-test .taken in
     let is = c .before .element-at .ensures in
     let one = test .wrapping-add-u32 .ensures in
-    let begun = turn .before .before .before .before .before .before in
-    let start = begun .before .before .before .before in
+    let opened = entered .before .before .before .before .before in
+    let start = opened .before .before .before .before in
     let range = start .args .range in
     let opens = count-opens (windowBetween (range .corners)) in
     let walk = count-walk (elements-additive opens) in

@@ -1,6 +1,6 @@
 -- `query::count::take_number` meets its contract: the number is tested against what is left of 01's N before it is added.
 use native.Mathlib.Omega.{arith}
-use mathlib.Core.Path.{refl, ap, _∙_}
+use mathlib.Core.Path.{refl, ap}
 use lib.ListN.{length}
 use borrow.Author.Needs.{needs}
 use Rattle.measures.proofs.Usable.{slot-long}
@@ -23,16 +23,20 @@ shared-slice-read-number c =
     )
 
 returns-2 : tie.Need-returns-2
-returns-2 c = let part = c .before .before .before in number-passes (part .part-of .ensures) refl (omega arith) (part .before .before .before .before .before .before .pre)
+returns-2 c =
+    let part : tie.After-part-of = search in
+    let start : tie.Start = search in
+    number-passes (part .part-of .ensures) refl (omega arith) (start .pre)
 
 returns-3 : tie.Need-returns-3
 returns-3 c =
-    let part = c .before .before .before .before .before .before in
-    number-passes (part .part-of .ensures) refl (omega arith) (part .before .before .before .before .before .before .pre)
+    let part : tie.After-part-of = search in
+    let start : tie.Start = search in
+    number-passes (part .part-of .ensures) refl (omega arith) (start .pre)
 
 returns-4 : tie.Need-returns-4
 returns-4 c =
-    let part = c .before .before .before .before .before .before in
+    let part : tie.After-part-of = search in
     let told = part .before in
     number-taken (part .part-of .ensures) refl (told .enum-told .given .1) (told .before .before .enter .ensures) (omega arith) refl
 
