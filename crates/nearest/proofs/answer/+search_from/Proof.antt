@@ -17,6 +17,7 @@ use Rattle.nearest.proofs.answer.+search_from.Tie.{close}
 abbrev μ-from : Measures 3 kinds.ps ℕ
 μ-from κs a = manyPlaces + 1 - a .1 .1 .1 .1 .1 .1 .1 .0
 
+-- `returned` is where the arrays that were lent are back, `searched` where the search has answered
 pub +search-from-spec : {M : Type 1} → statement M
 +search-from-spec = close μ-from λ t. lts.spec (_, many.Learnt, _, search-reads.Learnt, _, reads.Post, _, never-full-reads.Learnt) _ reads.Post
     (λ c κs. search needs)
@@ -31,11 +32,14 @@ pub +search-from-spec : {M : Type 1} → statement M
     (λ c. search needs)
     (λ c.
     let full = c .before .before .before in
-    full-damaged (rw (full .progress .given .1) at (full .before .before .before .before .before .before .search .ensures)) (c .if2 .taken))
+    let returned = full .before .before in
+    let searched = returned .before .before .before .before in
+    full-damaged (rw (full .progress .given .1) at (searched .search .ensures)) (c .if2 .taken))
     (λ c κs.
     let tested = c .before .before in
     let full = tested .before .before .before in
-    let searched = full .before .before .before .before .before .before in
+    let returned = full .before .before in
+    let searched = returned .before .before .before .before in
     let first = searched .before .before .before in
     let said = first .before .before .before .before .pre in
     let m = rw (full .progress .given .1) at (searched .search .ensures) in (
@@ -46,10 +50,17 @@ pub +search-from-spec : {M : Type 1} → statement M
     (λ c. c .match .keys3)
     (λ c. search needs)
     (λ c. search needs)
-    (λ c. let known = c .before in known-ends (rw (known .nearest .given .1) at (known .before .before .before .before .before .before .search .ensures)))
+    (λ c.
+    let known = c .before in
+    let returned = known .before .before in
+    let searched = returned .before .before .before .before in
+    known-ends (rw (known .nearest .given .1) at (searched .search .ensures)))
     (λ c. search needs)
     (λ c. search needs)
     (λ c. rw (c .never-full .ensures) (never-full (c .before .before .before .before .before .search-from .ensures)))
     (λ c. search needs)
     (λ c. search needs)
-    (λ c. damaged-ends (rw (c .enum-told .given .1) at (c .before .before .before .before .before .before .search .ensures)))
+    (λ c.
+    let returned = c .before .before in
+    let searched = returned .before .before .before .before in
+    damaged-ends (rw (c .enum-told .given .1) at (searched .search .ensures)))

@@ -34,7 +34,7 @@ search-from-requires c κs =
 returns-2 : tie.Need-returns-2
 returns-2 c =
     let searched = c .before .before .before in
-    let at = searched .before .before .before .before .before .before .before .before .before .before in
+    let at : tie.After-place-of = search in
     let tested = at .before .before in
     let (usable, said) = tested .before .before .pre in
     rw (c .answer-of .ensures) (finds usable (laid-told said (at .before .layout-of .ensures)) (at .place-of .ensures) (omega (arith, tested .if1 .left)) (searched .search-from .ensures))
