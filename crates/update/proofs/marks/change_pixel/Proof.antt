@@ -70,16 +70,16 @@ propagate-requires c κs =
     let whole = w .before .before .before .before in
     can-propagate (located (whole .before)) (whole .if1 .left) (w .wide .ensures) (path .renumber-path .ensures)
 
+-- where the change begins, from where the store is back with the numbers of the path
+unfoldable begun : tie.After-store → tie.Start
+begun renumbered = search
+
 -- the change went up, or was stopped
 carried : (c : tie.After-propagate)
-    → let path = c .before .before .before .before .before .before in
-    let expected = path .before .before .before .before .before in
-    let whole = expected .before .before in
-    let l = whole .before .before .before .before .before in
-    let a = l .before .before .args in
-    CarriedUp (a .store .now) (c .propagate .last .0) (a .code) (a .allowed) (a .removed) (c .propagate .result)
+    → let a = begun (c .before .before .before .before .before) .args in CarriedUp (a .store .now) (c .propagate .last .0) (a .code) (a .allowed) (a .removed) (c .propagate .result)
+unfolding begun
 carried c =
-    let path = c .before .before .before .before .before .before in
+    let path : tie.After-renumber-path = search in
     let w = path .before .before .before in
     let room = w .before in
     let expected = room .before in
@@ -89,15 +89,16 @@ carried c =
 -- the store is as long as it was
 still-long : (c : tie.After-propagate) → 8 ≤ length (c .propagate .last .0)
 still-long c =
-    let path = c .before .before .before .before .before .before in
-    let expected = path .before .before .before .before .before in
-    let whole = expected .before .before in
+    let path : tie.After-renumber-path = search in
+    let whole : tie.Else1 = search in
     omega (arith, c .propagate .ensures .kept .long, path .renumber-path .ensures .long, located (whole .before) .can .given .0 .0 .long)
 
 returns-4 : tie.Need-returns-4
+unfolding begun
 returns-4 c = let p = c .before .before .before in rw (not-true (p .propagate .result) (c .if4 .taken)) at (carried p)
 
 returns-5 : tie.Need-returns-5
+unfolding begun
 returns-5 c = let p = c .before .before .before in rw (not-false (p .propagate .result) (c .if4 .left)) at (carried p)
 
 pub change-pixel-spec : {M : Type 1} → statement M
