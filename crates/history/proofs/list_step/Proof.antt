@@ -14,7 +14,8 @@ slice-aggregate-list c = omega (arith, c .before .wide .ensures, length-take {A 
 
 returns : tie.Need-returns
 returns c =
-    let args = c .before .before .before .before .before .before .args in
+    let start : tie.Start = search in
+    let args = start .args in
     let call = args .call in
     subst (λ (n : ℕ). Step (list (call .a) (call .b) (call .c) (call .d) (take n (replicate 16 0))) (args .store .now) (args .store .now))
     (c .before .before .before .wide .ensures)

@@ -38,8 +38,9 @@ loop-less c = omega arith
 
 loop-again : tie.Need-loop-again Inv-loop μ-loop
 loop-again c =
-    let l = c .before .before .before .before .before .before in
-    let args = l .before .before .before .before .before .args in
+    let l : tie.At-loop Inv-loop μ-loop = search in
+    let start : tie.Start Inv-loop μ-loop = search in
+    let args = start .args in
     let images = args .images .now in
     let codes = args .codes .now in
     let call = c .before .before .before .before .encoded-at in (
@@ -54,8 +55,8 @@ same-length c = omega arith
 
 returns : tie.Need-returns Inv-loop μ-loop
 returns c =
-    let script = c .before .before .before .before .before .before .args .script .now in
-    let e : c .before .loop .i ≡ length script / 6 = omega arith in
+    let start : tie.Start Inv-loop μ-loop = search in
+    let e : c .before .loop .i ≡ length (start .args .script .now) / 6 = omega arith in
     rw (← e) (c .before .loop .inv .2)
 
 pub replay-spec : {M : Type 1} → statement M

@@ -5,16 +5,22 @@ use Rattle.history.proofs.run.Tie as tie
 
 returns : tie.Need-returns
 returns c =
-    let a = c .before .before .before .before .before .before .before .before .before .before .before .before .before .before .args in
-    let make = c .before .before .before .before .before .before .before .before .make in
-    let refusal = c .before .before .before .before .before .refusal-of in
+    let made : tie.After-make = search in
+    let start : tie.Start = search in
+    let tested : tie.Then1 = search in
+    let a = start .args in
+    let make = made .make in
+    let refusal = tested .before .refusal-of in
+    let replay = c .before .before .replay in
     ran (a .store .now) (make .last .0) (a .m) (a .k) (a .most) (make .result) (make .ensures) (a .script .now) (a .images .now) (a .codes .now) (refusal .result) (refusal .ensures)
-    (c .before .before .replay .last .0) (c .before .before .before .before .if1 .taken) (c .before .before .replay .ensures)
+    (replay .last .0) (tested .if1 .taken) (replay .ensures)
 
 returns-2 : tie.Need-returns-2
 returns-2 c =
-    let a = c .before .before .before .before .before .before .before .before .before .before .args in
-    let make = c .before .before .before .before .make in
+    let made : tie.After-make = search in
+    let start : tie.Start = search in
+    let a = start .args in
+    let make = made .make in
     let refusal = c .before .refusal-of in
     not-made (a .store .now) (make .last .0) (a .m) (a .k) (a .most) (make .result) (make .ensures) (a .script .now) (a .images .now) (a .codes .now) (refusal .result) (refusal .ensures)
     (c .if1 .left)
