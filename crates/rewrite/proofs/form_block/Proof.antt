@@ -5,31 +5,20 @@ use Rattle.rewrite.proofs.Moves.{fresh-small, taken-fits, run-still-wit
 use Rattle.rewrite.proofs.form_block.Statement.{statement}
 use Rattle.rewrite.proofs.form_block.Tie as tie
 
-abbrev taken-at : tie.After-fresh → tie.After-take-free
-taken-at c = c .before .before .before .before
-
-abbrev start : tie.After-take-free → tie.Start
-start c = c .before .before .before
-
-abbrev fresh-at : tie.After-move-run → tie.After-fresh
-fresh-at c = c .before .before .before .before .before .before .before
-
-abbrev moved-at : tie.After-splice-slot → tie.After-move-run
-moved-at c = c .before .before .before .before .before .before
-
 returns : tie.Need-returns
 returns c = rw (c .enum-told .given .1) at (c .before .before .before .before .take-free .ensures)
 
 head-slot-requires : tie.Need-head-slot-requires
 head-slot-requires c κs =
     let cut = c .before .before .before .before in
-    let moved = moved-at cut in
-    let f = fresh-at moved in
-    let t = taken-at f in
-    let can = start t .pre .0 in (
+    let moved : tie.After-move-run = search in
+    let fresh : tie.After-fresh = search in
+    let taken : tie.After-take-free = search in
+    let start : tie.Start = search in
+    let can = start .pre .0 in (
       (
-        cut-fits _ _ _ (f .fresh .given .1) (t .take-free .ensures) can _ (moved .before .wide .ensures) _ (moved .move-run .ensures) _ _ (cut .splice-slot .ensures),
-        fresh-below _ _ _ (f .fresh .given .1) (t .take-free .ensures) can _ (c .wide2 .ensures),
+        cut-fits _ _ _ (fresh .fresh .given .1) (taken .take-free .ensures) can _ (moved .before .wide .ensures) _ (moved .move-run .ensures) _ _ (cut .splice-slot .ensures),
+        fresh-below _ _ _ (fresh .fresh .given .1) (taken .take-free .ensures) can _ (c .wide2 .ensures),
       ),
       run-few can,
     )
@@ -38,13 +27,13 @@ returns-2 : tie.Need-returns-2
 returns-2 c =
     let headed = c .before .before in
     let cut = headed .before .before .before .before .before in
-    let moved = moved-at cut in
+    let moved : tie.After-move-run = search in
     let summed = moved .before .before .before in
-    let f = fresh-at moved in
-    let t = taken-at f in
-    let s = start t in
-    block-formed _ _ _ (f .fresh .given .1) (t .take-free .ensures) (s .pre .0) _ (moved .before .wide .ensures) _ (moved .move-run .ensures) _ _ (cut .splice-slot .ensures)
-    _ _ _ _ _ _ (s .pre .1) (headed .before .wide2 .ensures) refl (cut .before .before .before .block-tag .ensures) (summed .before .slot-part .ensures) (summed .number-of-run .ensures)
+    let fresh : tie.After-fresh = search in
+    let taken : tie.After-take-free = search in
+    let start : tie.Start = search in
+    block-formed _ _ _ (fresh .fresh .given .1) (taken .take-free .ensures) (start .pre .0) _ (moved .before .wide .ensures) _ (moved .move-run .ensures) _ _ (cut .splice-slot .ensures)
+    _ _ _ _ _ _ (start .pre .1) (headed .before .wide2 .ensures) refl (cut .before .before .before .block-tag .ensures) (summed .before .slot-part .ensures) (summed .number-of-run .ensures)
     (headed .head-slot .ensures)
 
 pub form-block-spec : {M : Type 1} → statement M

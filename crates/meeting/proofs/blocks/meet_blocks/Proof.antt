@@ -17,13 +17,13 @@ loop-holds c = (omega arith, met-none (c .before .before .before .pre .0 .4))
 
 returns : tie.Need-returns Inv-loop μ-loop
 returns c =
-    let called = c .before .before .before .before .before .before in
+    let called : tie.After-meet-element Inv-loop μ-loop = search in
     let read = called .before .before .before in
     met-damaged (read .before .loop-test .taken) (read .before .before .loop .inv .1) (read .element-at .ensures) (c .enum-told .given .1) (called .meet-element .ensures)
 
 loop-again : tie.Need-loop-again Inv-loop μ-loop
 loop-again c =
-    let called = c .before .before .before .before .before .before .before in
+    let called : tie.After-meet-element Inv-loop μ-loop = search in
     let read = called .before .before .before in
     (omega arith, met-one (read .before .loop-test .taken) (read .before .before .loop .inv .1) (read .element-at .ensures) (c .before .n .given .1) (called .meet-element .ensures))
 
