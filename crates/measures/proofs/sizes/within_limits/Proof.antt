@@ -8,7 +8,8 @@ use Rattle.measures.proofs.sizes.within_limits.Tie as tie
 
 returns-6 : tie.Need-returns-6
 returns-6 c =
-    let sizes = c .before .before .before .before .before .before .before .before .before .before .before .args .sizes in
+    let start : tie.Start = search in
+    let sizes = start .args .sizes in
     leb-decides (sizes .most) largestMost (ValidSizes sizes) (λ h. search needs) (λ h v. omega arith)
 
 pub within-limits-spec : {M : Type 1} → statement M
