@@ -22,5 +22,5 @@ has-panel-spec =
     (λ c. begins-later _ (λ p. omega (arith, p .first-row)))
     (λ c. search needs)
     (λ c. search (needs, side-positive))
-    (λ c. ends-before _ (c .before .before .before .before .before .before .before .pre) refl (omega arith))
+    (λ c. let start : tie.Start = search in ends-before _ (start .pre) refl (omega arith))
     returns-4)
