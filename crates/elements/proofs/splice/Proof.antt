@@ -9,7 +9,7 @@ returns c =
     let laid = c .before .before in
     let moved = laid .before .before .before .before in
     let wide = moved .before .before .wide in
-    let start = moved .before .before .before .before .before .before in
+    let start : tie.Start = search in
     let a = start .args in
     splice-law (a .part .now) (a .source .now) (a .place) (a .removed) (a .inserted) (start .pre) (wide .result) (wide .ensures)
     (moved .move-words .ensures) (laid .copy-words .ensures)
