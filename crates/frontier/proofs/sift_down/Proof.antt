@@ -19,7 +19,9 @@ returns : tie.Need-returns Inv-loop μ-loop
 returns c = sinking-ends _ (λ j one less e. omega (arith, c .before .before .lesser-child .ensures .lesser j one less e)) (c .before .before .before .before .before .loop .inv)
 
 loop-again : tie.Need-loop-again Inv-loop μ-loop
-loop-again c = sinks-on _ _ (c .before .before .before .lesser-child .ensures) (omega arith) (c .before .before .before .before .before .before .loop .inv)
+loop-again c =
+    let turn : tie.At-loop Inv-loop μ-loop = search in
+    sinks-on _ _ (c .before .before .before .lesser-child .ensures) (omega arith) (turn .loop .inv)
 
 returns-2 : tie.Need-returns-2 Inv-loop μ-loop
 returns-2 c = sinking-ends _ (λ j one less e. absurd (omega arith)) (c .before .loop .inv)

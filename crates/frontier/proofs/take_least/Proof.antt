@@ -8,7 +8,8 @@ use Rattle.frontier.proofs.take_least.Tie as tie
 
 sift-down-requires : tie.Need-sift-down-requires
 sift-down-requires c κs =
-    (omega arith, omega arith, omega arith, heap-fewer (c .before .before .before .before .before .before .before .before .before .pre .3) (omega arith))
+    let start : tie.Start = search in
+    (omega arith, omega arith, omega arith, heap-fewer (start .pre .3) (omega arith))
 
 pub take-least-spec : {M : Type 1} → statement M
 take-least-spec =
