@@ -11,13 +11,15 @@ use Rattle.measures.proofs.SlotWrites.{slot-word}
 use Rattle.freeslots.proofs.take_free.Statement.{statement}
 use Rattle.freeslots.proofs.take_free.Tie as tie
 
-abbrev startOf : tie.After-offset → tie.Start
-startOf c = c .before .before .before .before .before .before .before .before .before .before .before
+-- where the function begins, from where the offset of the free slot is known
+unfoldable startOf : tie.After-offset → tie.Start
+startOf c = search
 
 -- a word of the slot that word 7 names
 free-word : (c : tie.After-offset) (i j : ℕ) → i ≡ c .offset .result + j → j < narrowestSlot
     → (let a = startOf c .args in
     getD (slotPart (a .layout .width) (a .store .now) (firstFreeWord (a .store .now))) j 0 ≡ getD (a .store .now) i 0)
+unfolding startOf
 free-word c i j e h =
     let a = startOf c .args in
     let at = rw (c .before .wide3 .ensures) at (c .offset .ensures .is) in
@@ -27,12 +29,14 @@ returns-2 : tie.Need-returns-2
 returns-2 c = (refl, λ inside free few. absurd (omega arith))
 
 returns-3 : tie.Need-returns-3
+unfolding startOf
 returns-3 c = (refl, λ inside free few. c .if3 .taken (sym (free-word (c .before .before) _ 0 (omega arith) (omega arith)) ∙ free))
 
 slice-write-store-2 : tie.Need-slice-write-store-2
 slice-write-store-2 c = simp length-set (omega arith)
 
 returns-4 : tie.Need-returns-4
+unfolding startOf
 returns-4 c =
     let o = c .before .before .before in (
       refl,
