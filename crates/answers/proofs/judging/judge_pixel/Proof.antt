@@ -8,8 +8,12 @@ use Rattle.answers.proofs.Sides.{Known, order-small, side-of-order, cod
 use Rattle.answers.proofs.judging.judge_pixel.Statement.{statement}
 use Rattle.answers.proofs.judging.judge_pixel.Tie as tie
 
+-- where the sizes are at hand: where they were read, and where the function begins
+abbrev readOf : tie.After-struct-known → tie.After-read-sizes
+readOf c = c .before .before .before .before
+
 abbrev startOf : tie.After-struct-known → tie.Start
-startOf c = c .before .before .before .before .before .before
+startOf c = readOf c .before .before
 
 known : (c : tie.After-struct-known) → Known (startOf c .args .store .now) (c .before .before .sizes .given .0 .0)
 known c = rw (c .before .before .sizes .given .1) at (c .before .before .before .before .read-sizes .ensures)
