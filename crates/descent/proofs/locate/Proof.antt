@@ -23,9 +23,12 @@ Inv-loop store layout order code slots₀ places₀ depth₀ slot₀ level₀ bl
 abbrev μ-loop : tie.MeasureT-loop
 μ-loop store layout order code slots₀ places₀ depth₀ slot₀ level₀ block₀ slots places depth slot level block = level
 
--- where a slot is opened, the turn of the loop in which it is
+-- where a slot's count is known: where the slot was opened, and the turn of the loop in which it is
+abbrev openedOf : tie.After-known-told Inv-loop μ-loop → tie.After-open-part Inv-loop μ-loop
+openedOf c = c .before .before .before
+
 abbrev testOf : tie.After-known-told Inv-loop μ-loop → tie.In-loop Inv-loop μ-loop
-testOf c = c .before .before .before .before .before .before
+testOf c = openedOf c .before .before .before
 
 abbrev turnOf : tie.After-known-told Inv-loop μ-loop → tie.At-loop Inv-loop μ-loop
 turnOf c = testOf c .before
@@ -40,7 +43,7 @@ part-is c = rw (← c .before .wide .ensures) (c .slot-part .ensures)
 header : (c : tie.After-known-told Inv-loop μ-loop)
     → let turn = turnOf c in HeaderSays (partOf turn) (turn .loop .level) (turn .loop .block) (c .before .count .given .0 .0)
 header c =
-    let opened = c .before .before .before in
+    let opened = openedOf c in
     let turn = opened .before .before .before .before in
     subst₂ (λ (p : List ℕ) (r : Opening). Opened p (turn .loop .level) (turn .loop .block) r) (part-is (opened .before)) (c .before .count .given .1) (opened .open-part .ensures)
 
