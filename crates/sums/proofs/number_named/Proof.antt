@@ -16,13 +16,17 @@ returns-2 c =
     let a = w .before .before .before .args in
     (sym (named-slot (a .layout) (a .store .now) (a .tag) (omega arith) ∙ said-no-slot (a .layout) (a .store .now) _ (omega (arith, w .wide .ensures))), omega arith)
 
+-- where the slot's offset is known: where the slot's number was made wide, and where the function begins
+abbrev wideOf : tie.After-offset → tie.After-wide
+wideOf c = c .before .before .before
+
 abbrev startOf : tie.After-offset → tie.Start
-startOf c = c .before .before .before .before .before .before
+startOf c = wideOf c .before .before .before
 
 -- the word that is read is the number of the slot
 slot-number : (c : tie.After-offset) (i : ℕ) → i ≡ c .offset .result + numberIndex
     → (let a = startOf c .args in
-    numberWord (slotPart (a .layout .width) (a .store .now) (c .before .before .before .wide .result)) ≡ getD (a .store .now) i 0)
+    numberWord (slotPart (a .layout .width) (a .store .now) (wideOf c .wide .result)) ≡ getD (a .store .now) i 0)
 slot-number c i e =
     let a = startOf c .args in
     slot-word (a .layout .width) _ (a .store .now) i numberIndex (omega (arith, c .offset .ensures .is)) (omega (arith, startOf c .pre .within .width-from))
@@ -30,7 +34,7 @@ slot-number c i e =
 returns-3 : tie.Need-returns-3
 returns-3 c =
     let o = c .before .before in
-    let w = o .before .before .before in
+    let w = wideOf o in
     let a = startOf o .args in
     let n = slot-number o _ refl in (
       sym (named-slot (a .layout) (a .store .now) (a .tag) (omega arith)
@@ -41,7 +45,7 @@ returns-3 c =
 returns-4 : tie.Need-returns-4
 returns-4 c =
     let o = c .before .before in
-    let w = o .before .before .before in
+    let w = wideOf o in
     let a = startOf o .args in
     let n = slot-number o _ refl in (
       sym (named-slot (a .layout) (a .store .now) (a .tag) (omega arith)
