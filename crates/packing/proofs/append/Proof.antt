@@ -5,13 +5,11 @@ use Rattle.packing.proofs.Appending.{stack-lies, k-counts, pack-complet
 use Rattle.packing.proofs.append.Statement.{statement}
 use Rattle.packing.proofs.append.Tie as tie
 
-abbrev startOf : tie.After-none-complete → tie.Start
-startOf n = n .before .before .before .before .before .before
-
 push-requires : tie.Need-push-requires
 push-requires c κs =
     let n = c .before .before in
-    push-due (startOf n .pre) (n .before .before .before .common-level .ensures) (nothing-packed (n .before .wide .ensures) (n .none-complete .ensures) (c .before .if1 .taken))
+    let start : tie.Start = search in
+    push-due (start .pre) (n .before .before .before .common-level .ensures) (nothing-packed (n .before .wide .ensures) (n .none-complete .ensures) (c .before .if1 .taken))
 
 returns : tie.Need-returns
 returns c =
