@@ -4,17 +4,12 @@ use Rattle.building.proofs.Finishing.{pack-below-due, lay-root-due, sti
 use Rattle.building.proofs.finish.finish.Statement.{statement}
 use Rattle.building.proofs.finish.finish.Tie as tie
 
-abbrev packedOf : tie.After-lay-block → tie.After-pack-complete
-packedOf l = l .before .before .before .before .before .before .before
-
-abbrev startOf : tie.After-pack-complete → tie.Start
-startOf p = p .before .before .before .before .before
-
 free-from-requires : tie.Need-free-from-requires
 free-from-requires c κs =
     let laid = c .before .before .before in
-    let packed = packedOf laid in
-    (still-fits (startOf packed .pre) (packed .pack-complete .ensures) (laid .lay-block .ensures), search (needs, fresh-below))
+    let packed : tie.After-pack-complete = search in
+    let start : tie.Start = search in
+    (still-fits (start .pre) (packed .pack-complete .ensures) (laid .lay-block .ensures), search (needs, fresh-below))
 
 pub finish-spec : {M : Type 1} → statement M
 finish-spec =
