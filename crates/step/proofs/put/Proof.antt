@@ -9,26 +9,30 @@ use Rattle.step.proofs.PutLaws.{count-at, put-can, put-cannot}
 use Rattle.step.proofs.put.Statement.{statement}
 use Rattle.step.proofs.put.Tie as tie
 
+-- where the number of elements was read: where the slot's offset was found, and where the function begins
+abbrev offset-of : tie.After-wide → tie.After-offset
+offset-of c = c .before .before .before
+
 abbrev start : tie.After-wide → tie.Start
-start c = c .before .before .before .before .before .before
+start c = offset-of c .before .before .before
 
 -- the number of elements that was read
 count-is : (c : tie.After-wide) → (let a = start c .args in c .wide .result ≡ countWord (slotPart (a .layout .width) (a .store .now) (a .slot)))
-count-is c = let p = start c .pre in c .wide .ensures ∙ count-at (p .fits) (p .slot-below) (c .before .before .before .offset .ensures)
+count-is c = let p = start c .pre in c .wide .ensures ∙ count-at (p .fits) (p .slot-below) (offset-of c .offset .ensures)
 
 -- a splice that can be done passes the tests
 passes : (c : tie.After-wide) → (let a = start c .args in
     let room = (a .layout .width - 8) / 2 in
     CanSplice (slotPart (a .layout .width) (a .store .now) (a .slot)) (a .scratch .now) (a .place) (a .removed) (a .inserted)
     → (c .wide .result ≤ room) × (a .place + a .removed ≤ c .wide .result) × (c .wide .result - a .removed + a .inserted ≤ room))
-passes c = let p = start c .pre in put-cannot (p .fits) (p .slot-below) (c .before .before .before .offset .ensures) (count-is c)
+passes c = let p = start c .pre in put-cannot (p .fits) (p .slot-below) (offset-of c .offset .ensures) (count-is c)
 
 splice-slot-requires : tie.Need-splice-slot-requires
 splice-slot-requires c κs =
     let d = c .before .before .before .before in
     let p = start d .pre in (
       (p .fits, p .slot-below),
-      put-can (p .fits) (p .slot-below) (d .before .before .before .offset .ensures) (count-is d) (omega (arith, c .before .before .before .if1 .left))
+      put-can (p .fits) (p .slot-below) (offset-of d .offset .ensures) (count-is d) (omega (arith, c .before .before .before .if1 .left))
           (omega (arith, c .before .before .if2 .left)) (omega (arith, c .before .if3 .left)) (omega (arith, p .room, p .inserted-to)),
     )
 

@@ -19,8 +19,12 @@ use Rattle.step.proofs.RegroupEnds.{kept-same, kept-but-slot, front-kep
 use Rattle.step.proofs.regroup.Statement.{statement}
 use Rattle.step.proofs.regroup.Tie as tie
 
+-- where the number of elements was read: where the block around the run was found, and where the function begins
+abbrev around : tie.After-wide → tie.After-block-around
+around c = c .before .before .before
+
 abbrev start : tie.After-wide → tie.Start
-start c = c .before .before .before .before .before .before .before
+start c = around c .before .before .before .before
 
 -- the number of elements that was read
 count-is : (c : tie.After-wide) → (let a = start c .args in c .wide .result ≡ countWord (slotPart (a .change .layout .width) (a .store .now) (a .slot)))
@@ -43,7 +47,7 @@ returns c =
     let w = i .before .before .before in
     let a = start w .args in
     let p = start w .pre in
-    let d = w .before .before .before .block-around in
+    let d = around w .block-around in
     let r = u .hand-up-block .ensures in
     record {
       kept = kept-but-slot (a .change .layout) (a .slot) (a .store .now) _ (p .slot-below) (r .only);
@@ -76,7 +80,7 @@ returns-2 c =
     let j = f .before .before in
     let a = start (j .before) .args in
     let p = start (j .before) .pre in
-    let d = j .before .before .before .before .block-around in
+    let d = around (j .before) .block-around in
     let r = rw (c .enum-told .given .1) at (f .form-block .ensures) in
     record {
       kept = record { long = r .long; head = front-kept _ _ (a .store .now) (f .form-block .last .0) (r .head); past = r .past (a .change .layout .slots) (p .slot-below) (r .fresh-below) };
@@ -90,7 +94,7 @@ returns-3 c =
     let f = c .before .before .before .before in
     let j = f .before .before in
     let a = start (j .before) .args in
-    let d = j .before .before .before .before .block-around in
+    let d = around (j .before) .block-around in
     let r = rw (c .enum-told2 .given .1) at (f .form-block .ensures) in
     record {
       kept = kept-same (a .change .layout) (a .store .now) _ (r .0);

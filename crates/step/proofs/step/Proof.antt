@@ -7,8 +7,12 @@ use Rattle.step.proofs.StepEnds.{level-there, can-search, can-hand-up, 
 use Rattle.step.proofs.step.Statement.{statement}
 use Rattle.step.proofs.step.Tie as tie
 
+-- where the elements were put: where the layout was at hand, and where the step begins
+abbrev layout-of : tie.After-put → tie.After-layout
+layout-of c = c .before .before .before
+
 abbrev start : tie.After-put → tie.Start
-start c = c .before .before .before .before .before .before
+start c = layout-of c .before .before .before
 
 abbrev put-of : tie.After-count → tie.After-put
 put-of c = c .before .before .before .before
