@@ -10,34 +10,39 @@ use Rattle.nearest.proofs.answer.find_nearest.Tie as tie
 
 meet-root-requires : tie.Need-meet-root-requires
 meet-root-requires c κs =
-    let at = c .before .before .before .before in
-    let (usable, said) = at .before .before .before .before .pre in
-    let keys = c .before .before .before .few-keys .ensures in
-    (sizes-valid usable said .panel .order-to, at .place-of .ensures .on-grid, omega (arith, keys), c .before .before .few-tags .ensures ∙ sym keys)
+    let start : tie.Start = search in
+    let placed : tie.After-place-of = search in
+    let keys : tie.After-few-keys = search in
+    let tags : tie.After-few-tags = search in
+    let (usable, said) = start .pre in
+    (sizes-valid usable said .panel .order-to, placed .place-of .ensures .on-grid, omega (arith, keys .few-keys .ensures), tags .few-tags .ensures ∙ sym (keys .few-keys .ensures))
 
 search-from-requires : tie.Need-search-from-requires
 search-from-requires c κs =
-    let met = c .before .before .before .before in
-    let at = met .before .before .before .before .before in
-    let (usable, said) = at .before .before .before .before .pre in
-    let laid = at .before .layout-of .ensures in
+    let keys : tie.After-few-keys = search in
+    let met : tie.After-meet-root = search in
+    let start : tie.Start = search in
+    let placed = keys .before in
+    let (usable, said) = start .pre in
+    let laid = placed .before .layout-of .ensures in
     let root = met .meet-root .ensures in (
       (
         laid-told said laid,
         layout-fits _ _ _ usable said laid,
-        at .place-of .ensures .on-grid,
+        placed .place-of .ensures .on-grid,
         root .begins _ _ _ (ap (λ (z : Sizes). z .order) said) (laid-told said laid),
       ),
-      omega (arith, root .keys-long, met .before .before .before .before .few-keys .ensures),
+      omega (arith, root .keys-long, keys .few-keys .ensures),
     )
 
 returns-2 : tie.Need-returns-2
 returns-2 c =
-    let searched = c .before .before .before in
-    let at : tie.After-place-of = search in
-    let tested = at .before .before in
-    let (usable, said) = tested .before .before .pre in
-    rw (c .answer-of .ensures) (finds usable (laid-told said (at .before .layout-of .ensures)) (at .place-of .ensures) (omega (arith, tested .if1 .left)) (searched .search-from .ensures))
+    let searched : tie.After-search-from = search in
+    let laid : tie.After-layout-of = search in
+    let placed : tie.After-place-of = search in
+    let budgeted = laid .before in
+    let (usable, said) = budgeted .before .before .pre in
+    rw (c .answer-of .ensures) (finds usable (laid-told said (laid .layout-of .ensures)) (placed .place-of .ensures) (omega (arith, budgeted .if1 .left)) (searched .search-from .ensures))
 
 pub find-nearest-spec : {M : Type 1} → statement M
 find-nearest-spec =
