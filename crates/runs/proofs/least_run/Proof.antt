@@ -18,28 +18,32 @@ Inv-loop part count place level k code left₀ right₀ below₀ above₀ reache
 abbrev μ-loop : tie.MeasureT-loop
 μ-loop part count place level k code left₀ right₀ below₀ above₀ reached₀ left right below above reached = k - (right - left)
 
+-- where the function begins, from where a turn does
+abbrev begun : tie.At-loop Inv-loop μ-loop → tie.Start Inv-loop μ-loop
+begun turn = search
+
 -- the code's place, where the loop begins
 place-of : (c : tie.At-loop Inv-loop μ-loop)
-    → let s = c .before .before .before .before in PlaceOf (s .args .part .now) (s .args .count) (s .args .code) (s .args .place)
-place-of c = c .before .before .before .before .pre .0 .1
+    → let s = begun c in PlaceOf (s .args .part .now) (s .args .count) (s .args .code) (s .args .place)
+place-of c = begun c .pre .0 .1
 
 -- no lower block holds k, where neither side's next element is near at a lower level
 nothing : (c : tie.At-loop Inv-loop μ-loop)
-    → let a = c .before .before .before .before .args in c .loop .right - c .loop .left < a .k → a .level ≤ c .loop .below → a .level ≤ c .loop .above
+    → let a = begun c .args in c .loop .right - c .loop .left < a .k → a .level ≤ c .loop .below → a .level ≤ c .loop .above
     → RunMeets (a .part .now) (a .count) (a .level) (a .k) (a .code) Nothing
 nothing c room low high = λ ascending h s.
     let l = c .loop .inv in
     few-near ascending (place-of c) (l .0 .0) (l .0 .1) (l .1 .0) (l .1 .1) _ h room (omega arith) (omega arith)
 
 sub-left : tie.Need-sub-left Inv-loop μ-loop
-sub-left c = omega (arith, some-before (c .before .before .before .loop .inv .1 .0) (omega arith))
+sub-left c = let turn : tie.At-loop Inv-loop μ-loop = search in omega (arith, some-before (turn .loop .inv .1 .0) (omega arith))
 
 loop-less : tie.Need-loop-less Inv-loop μ-loop
-loop-less c = omega (arith, some-before (c .before .before .before .before .loop .inv .1 .0) (omega arith))
+loop-less c = let turn : tie.At-loop Inv-loop μ-loop = search in omega (arith, some-before (turn .loop .inv .1 .0) (omega arith))
 
 loop-again : tie.Need-loop-again Inv-loop μ-loop
 loop-again c =
-    let turn = c .before .before .before .before in
+    let turn : tie.At-loop Inv-loop μ-loop = search in
     let l = turn .loop in
     let at = place-of turn in
     let below = l .inv .1 .0 in
@@ -51,7 +55,7 @@ loop-again c =
 
 loop-again-2 : tie.Need-loop-again-2 Inv-loop μ-loop
 loop-again-2 c =
-    let turn = c .before .before .before .before in
+    let turn : tie.At-loop Inv-loop μ-loop = search in
     let l = turn .loop in
     let at = place-of turn in
     let below = l .inv .1 .0 in
@@ -63,7 +67,7 @@ loop-again-2 c =
 
 returns-3 : tie.Need-returns-3 Inv-loop μ-loop
 returns-3 c =
-    let turn = c .before .before .before in
+    let turn : tie.At-loop Inv-loop μ-loop = search in
     let l = turn .loop in
     let at = place-of turn in
     record {

@@ -9,7 +9,8 @@ use Rattle.measures.specs.Slot.{elementIndex}
 
 returns-2 : tie.Need-returns-2
 returns-2 c =
-    let i = c .before .before .before .before .args .i in
+    let start : tie.Start = search in
+    let i = start .args .i in
     record { there = λ h. let e : elementIndex (i - 1) ≡ 6 + 2 * i = omega arith in rw e (c .common-level .ensures); missing = omega arith }
 
 pub level-before-spec : {M : Type 1} → statement M

@@ -11,20 +11,20 @@ use Rattle.measures.specs.Slot.{elementIndex}
 returns-3 : tie.Need-returns-3
 returns-3 c =
     let below = c .before .before .before .if1 .came in
-    let s = c .before .before .before .before .before in
+    let start : tie.Start = search in
     record {
       within = omega arith;
-      before = λ i e. let at : elementIndex i ≡ 6 + 2 * s .args .near = omega arith in rw at (⊎-elim (λ t. omega (arith, t .2)) (λ t. omega (arith, t)) below);
+      before = λ i e. let at : elementIndex i ≡ 6 + 2 * start .args .near = omega arith in rw at (⊎-elim (λ t. omega (arith, t .2)) (λ t. omega (arith, t)) below);
       after = λ h. omega arith;
     }
 
 returns-4 : tie.Need-returns-4
 returns-4 c =
     let below = c .before .if1 .came in
-    let s = c .before .before .before in
+    let start : tie.Start = search in
     record {
       within = omega arith;
-      before = λ i e. let at : elementIndex i ≡ 6 + 2 * s .args .near = omega arith in rw at (⊎-elim (λ t. omega (arith, t .2)) (λ t. omega (arith, t)) below);
+      before = λ i e. let at : elementIndex i ≡ 6 + 2 * start .args .near = omega arith in rw at (⊎-elim (λ t. omega (arith, t .2)) (λ t. omega (arith, t)) below);
       after = λ h. omega arith;
     }
 

@@ -18,8 +18,9 @@ abbrev μ-loop : tie.MeasureT-loop
 
 returns : tie.Need-returns Inv-loop μ-loop
 returns c =
-    let l = c .before .before .before .before .loop in
-    let block = c .before .before .before .before .before .block-index in
+    let turn : tie.At-loop Inv-loop μ-loop = search in
+    let l = turn .loop in
+    let block = turn .before .block-index in
     record {
       within = l .inv .0;
       near = l .inv .1;
@@ -28,10 +29,11 @@ returns c =
 
 loop-again : tie.Need-loop-again Inv-loop μ-loop
 loop-again c =
-    let turn = c .before .before .before .before in
+    let turn : tie.At-loop Inv-loop μ-loop = search in
+    let start : tie.Start Inv-loop μ-loop = search in
     let l = turn .loop in
     let block = turn .before .block-index in
-    let a = turn .before .before .before .args in
+    let a = start .args in
     let before : elementIndex (l .left - 1) ≡ 6 + 2 * l .left = omega arith in
     let here = rw (← before) at (sym (c .before .block-index2 .ensures) ∙ c .if1 .left ∙ block .ensures) in
     (omega arith, near-with (a .part .now) (a .level) (a .code) (l .left - 1) (omega arith) here (l .inv .1))

@@ -18,16 +18,18 @@ abbrev μ-loop : tie.MeasureT-loop
 
 returns : tie.Need-returns Inv-loop μ-loop
 returns c =
-    let l = c .before .before .before .before .loop in
-    let block = c .before .before .before .before .before .block-index in
+    let turn : tie.At-loop Inv-loop μ-loop = search in
+    let l = turn .loop in
+    let block = turn .before .block-index in
     record { low = l .inv .0; within = l .inv .1; near = l .inv .2; ends = λ h near. c .if1 .taken (c .before .block-index2 .ensures ∙ near ∙ sym (block .ensures)) }
 
 loop-again : tie.Need-loop-again Inv-loop μ-loop
 loop-again c =
-    let turn = c .before .before .before .before in
+    let turn : tie.At-loop Inv-loop μ-loop = search in
+    let start : tie.Start Inv-loop μ-loop = search in
     let l = turn .loop in
     let block = turn .before .block-index in
-    let a = turn .before .before .before .args in
+    let a = start .args in
     let here = sym (c .before .block-index2 .ensures) ∙ c .if1 .left ∙ block .ensures in
     (omega arith, omega arith, near-with (a .part .now) (a .level) (a .code) (l .right) (omega arith) here (l .inv .2))
 
