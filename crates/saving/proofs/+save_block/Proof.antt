@@ -49,32 +49,36 @@ pub +save-block-spec : {M : Type 1} → statement M
     (λ c κs.
     let opened = c .before .before in
     let tried = opened .before .before in
-    (tried .before .before .before .before .before .pre .1 .fits, entered-below (opened .count .given .1) (tried .enter .ensures)))
+    (search needs, entered-below (opened .count .given .1) (tried .enter .ensures)))
     (λ c κs.
     let room = c .before .before in
     let opened = room .before .before in
     let tried = opened .before .before in
-    let can = tried .before .before .before .before .before .pre .1 in
-    (can .long, (room .if2 .left, entered-low (opened .count .given .1) (tried .enter .ensures) (can .above-to))))
+    (search needs, (room .if2 .left, entered-low (opened .count .given .1) (tried .enter .ensures) (search needs))))
     (λ c. search needs)
     (λ c. search needs)
     (λ c.
-    let looked = c .before .before .before .before in
+    let put = c .before .before in
+    let looked = put .before .before in
     let opened = looked .before .before .before in
-    let tried = opened .before .before in
-    let pre = tried .before .before .before .before .before .pre in (
+    let tried = opened .before .before in (
       loop-begins (opened .count .given .1) (tried .enter .ensures) (looked .part-of .ensures) save-walk,
-      can-save-same (pre .1) (c .before .output .given),
+      search (needs, can-save-same),
       refl,
       omega arith,
-      pre .0,
+      search needs,
     ))
     (λ c κs. element-there (c .before .loop .inv .0) (c .loop-test .taken))
     (λ c. c .match2 .keys1)
-    (λ c κs. let looked = c .before .before .before .before in let l = looked .before .before .loop .inv in rw (l .2) (l .1 .long))
+    (λ c κs.
+    let told = c .before .before in
+    let looked = told .before .before in
+    let l = looked .before .before .loop .inv in
+    rw (l .2) (l .1 .long))
     (λ c. c .match2 .keys2)
     (λ c κs.
-    let looked = c .before .before .before .before .before in
+    let told = c .before .before .before in
+    let looked = told .before .before in
     let l = looked .before .before .loop .inv in
     (rw (l .4) at (l .0 .slot-entered .level-below), save-within (l .0) (l .1) (l .2)))
     (λ c. let turn = c .before .before in next-fits (turn .before .loop .inv .0) (turn .loop-test .taken))
@@ -89,7 +93,9 @@ pub +save-block-spec : {M : Type 1} → statement M
     (c .match2 .came))
     (λ c. c .before .loop .inv .2 ∙ c .before .before .before .output .given)
     (λ c.
-    let l = c .before .loop .inv in
-    let put = c .before .before .before .before in
-    let opened = put .before .before .before .before .before in
+    let entered = c .before in
+    let l = entered .loop .inv in
+    let put = entered .before .before .before in
+    let looked = put .before .before in
+    let opened = looked .before .before .before in
     save-whole (opened .before .before .before .if1 .left) (put .put-entry .ensures) (l .0) (c .loop-test .left) (l .2) (l .3))

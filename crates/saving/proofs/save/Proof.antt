@@ -9,10 +9,11 @@ use Rattle.saving.proofs.save.Tie as tie
 write-front-requires : tie.Need-write-front-requires
 write-front-requires c κs =
     let room = c .before in
-    let pixels = room .before .before .before .before in
-    let a = pixels .before .before .before .before .before in
-    let bounds = rw (pixels .pixels .given .1) at (pixels .before .before .read-numbers .ensures .bounds) in
-    (a .pre, ((omega (arith, room .before .before .wide .ensures, room .before .wide2 .ensures), room .if1 .left), omega (arith, bounds, a .pre .0 .valid .most-to, slot-count-bounded (a .pre .0 .valid))))
+    let told : tie.After-pixels = search in
+    let read : tie.After-read-numbers = search in
+    let start : tie.Start = search in
+    let bounds = rw (told .pixels .given .1) at (read .read-numbers .ensures .bounds) in
+    (start .pre, ((omega (arith, room .before .before .wide .ensures, room .before .wide2 .ensures), room .if1 .left), omega (arith, bounds, start .pre .0 .valid .most-to, slot-count-bounded (start .pre .0 .valid))))
 
 pub save-spec : {M : Type 1} → statement M
 save-spec =

@@ -9,25 +9,25 @@ use Rattle.saving.proofs.write_image.Tie as tie
 
 put-header-requires : tie.Need-put-header-requires
 put-header-requires c κs =
-    let a = c .before .before .before in
-    let valid = sizes-valid (a .pre .0 .0) (a .pre .0 .1) in
-    (omega (arith, a .pre .1 .0), (valid .panel .order-to, valid .panel .k-to))
+    let start : tie.Start = search in
+    let valid = sizes-valid (start .pre .0 .0) (start .pre .0 .1) in
+    (omega (arith, start .pre .1 .0), (valid .panel .order-to, valid .panel .k-to))
 
 save-block-requires : tie.Need-save-block-requires
 save-block-requires c κs =
-    let widened = c .before .before in
-    let laid = widened .before .before in
-    let headed = laid .before .before .before in
-    let a = headed .before .before .before .before in
-    can-save (a .pre .0 .0) (a .pre .0 .1) (laid .layout-of .ensures)
-    (omega (arith, a .pre .1 .0, length-headed (headed .put-header .ensures) (omega (arith, a .pre .1 .0)), widened .before .wide .ensures, widened .wide2 .ensures))
+    let widened : tie.After-wide2 = search in
+    let laid : tie.After-layout-of = search in
+    let headed : tie.After-put-header = search in
+    let start : tie.Start = search in
+    can-save (start .pre .0 .0) (start .pre .0 .1) (laid .layout-of .ensures)
+    (omega (arith, start .pre .1 .0, length-headed (headed .put-header .ensures) (omega (arith, start .pre .1 .0)), widened .before .wide .ensures, widened .wide2 .ensures))
 
 returns : tie.Need-returns
 returns c =
     let walked = c .before .before in
-    let widened = walked .before .before .before in
-    let laid = widened .before .before in
-    let headed = laid .before .before .before in
+    let widened : tie.After-wide2 = search in
+    let laid : tie.After-layout-of = search in
+    let headed : tie.After-put-header = search in
     record {
       layout = laid .layout-of .result;
       laid = laid .layout-of .ensures;

@@ -8,23 +8,20 @@ use Rattle.saving.proofs.SaidNumbers.{not-opened, too-many-pixels, too-
 use Rattle.saving.proofs.numbers.read_numbers.Statement.{statement}
 use Rattle.saving.proofs.numbers.read_numbers.Tie as tie
 
--- where the slots lie, which is found before the number of pixels is tested
-abbrev laidBefore : tie.Else1 → tie.After-layout-of
-laidBefore c = let opened = c .before .before .before .before .before in opened .before .before
-
 open-part-requires : tie.Need-open-part-requires
 open-part-requires c κs = search (needs, part-has-head, part-narrow, layout-fits)
 
 returns-3 : tie.Need-returns-3
 returns-3 c =
-    let laid = laidBefore (c .before .before .before .before) in
-    let a = laid .before .before in
-    too-many-blocks (a .pre .0) (a .pre .1) (laid .layout-of .ensures) (omega (arith, c .if2 .taken, c .before .before .wide .ensures))
+    let laid : tie.After-layout-of = search in
+    let start : tie.Start = search in
+    too-many-blocks (start .pre .0) (start .pre .1) (laid .layout-of .ensures) (omega (arith, c .if2 .taken, c .before .before .wide .ensures))
 
 returns-4 : tie.Need-returns-4
 returns-4 c =
-    let laid = laidBefore (c .before .before .before .before) in
-    let within : blocksWord (laid .before .before .args .store .now) ≤ laid .layout-of .result .slots = omega (arith, c .if2 .left, c .before .before .wide .ensures) in
+    let laid : tie.After-layout-of = search in
+    let start : tie.Start = search in
+    let within : blocksWord (start .args .store .now) ≤ laid .layout-of .result .slots = omega (arith, c .if2 .left, c .before .before .wide .ensures) in
     search (needs, numbers-said, within)
 
 pub read-numbers-spec : {M : Type 1} → statement M
