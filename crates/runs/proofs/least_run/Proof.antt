@@ -19,7 +19,7 @@ abbrev μ-loop : tie.MeasureT-loop
 μ-loop part count place level k code left₀ right₀ below₀ above₀ reached₀ left right below above reached = k - (right - left)
 
 -- where the function begins, from where a turn does
-abbrev begun : tie.At-loop Inv-loop μ-loop → tie.Start Inv-loop μ-loop
+unfoldable begun : tie.At-loop Inv-loop μ-loop → tie.Start Inv-loop μ-loop
 begun turn = search
 
 -- the code's place, where the loop begins
@@ -31,6 +31,7 @@ place-of c = begun c .pre .0 .1
 nothing : (c : tie.At-loop Inv-loop μ-loop)
     → let a = begun c .args in c .loop .right - c .loop .left < a .k → a .level ≤ c .loop .below → a .level ≤ c .loop .above
     → RunMeets (a .part .now) (a .count) (a .level) (a .k) (a .code) Nothing
+unfolding begun
 nothing c room low high = λ ascending h s.
     let l = c .loop .inv in
     few-near ascending (place-of c) (l .0 .0) (l .0 .1) (l .1 .0) (l .1 .1) _ h room (omega arith) (omega arith)
@@ -42,6 +43,7 @@ loop-less : tie.Need-loop-less Inv-loop μ-loop
 loop-less c = let turn : tie.At-loop Inv-loop μ-loop = search in omega (arith, some-before (turn .loop .inv .1 .0) (omega arith))
 
 loop-again : tie.Need-loop-again Inv-loop μ-loop
+unfolding begun
 loop-again c =
     let turn : tie.At-loop Inv-loop μ-loop = search in
     let l = turn .loop in
@@ -54,6 +56,7 @@ loop-again c =
     )
 
 loop-again-2 : tie.Need-loop-again-2 Inv-loop μ-loop
+unfolding begun
 loop-again-2 c =
     let turn : tie.At-loop Inv-loop μ-loop = search in
     let l = turn .loop in
@@ -66,6 +69,7 @@ loop-again-2 c =
     )
 
 returns-3 : tie.Need-returns-3 Inv-loop μ-loop
+unfolding begun
 returns-3 c =
     let turn : tie.At-loop Inv-loop μ-loop = search in
     let l = turn .loop in
@@ -78,6 +82,7 @@ returns-3 c =
     }
 
 pub least-run-spec : {M : Type 1} → statement M
+unfolding begun
 least-run-spec =
     tie.close
     (tie.spec
