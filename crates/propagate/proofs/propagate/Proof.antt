@@ -52,7 +52,7 @@ loop-holds c =
 
 step-requires : tie.Need-step-requires Inv-loop μ-loop
 step-requires c κs =
-    let a = c .before .before .before .before .before in
+    let start : tie.Start Inv-loop μ-loop = search in
     let i = c .before .before .loop .inv .0 in (
       record {
         fits = i .fits;
@@ -62,14 +62,14 @@ step-requires c κs =
         inserted-to = i .coming-to;
         room = i .scratch-long;
       },
-      (a .pre .k-from, a .pre .k-to),
+      (start .pre .k-from, start .pre .k-to),
     )
 
 abbrev loop-of : tie.After-step Inv-loop μ-loop → tie.At-loop Inv-loop μ-loop
-loop-of c = c .before .before .before
+loop-of stepped = stepped .before .before .before
 
 abbrev start : tie.At-loop Inv-loop μ-loop → tie.Start Inv-loop μ-loop
-start c = c .before .before .before
+start turn = turn .before .before .before
 
 -- a step from which it follows that the change is at rest ends the loop
 ends-by : (c : tie.After-step Inv-loop μ-loop) {r : Bool}
@@ -84,51 +84,57 @@ ends-by c right =
     record { kept = kept-then (l .loop .inv .1) (c .step .ensures .kept); right = λ σ o p. right σ o (l .loop .inv .2 σ o (named σ (sym (l .before .wide .ensures)) refl p)) }
 
 returns : tie.Need-returns Inv-loop μ-loop
-returns c = let s = c .before .before .before .before .before in ends-by s (λ σ o p. (refl, rests (s .step .ensures) (c .enum-told .given .1) σ o p))
+returns c =
+    let stepped : tie.After-step Inv-loop μ-loop = search in
+    ends-by stepped (λ σ o p. (refl, rests (stepped .step .ensures) (c .enum-told .given .1) σ o p))
 
 returns-2 : tie.Need-returns-2 Inv-loop μ-loop
-returns-2 c = let s = c .before .before .before .before .before in ends-by s (λ σ o p. absurd (never-damaged (s .step .ensures) (c .enum-told2 .given .1) σ o p))
+returns-2 c =
+    let stepped : tie.After-step Inv-loop μ-loop = search in
+    ends-by stepped (λ σ o p. absurd (never-damaged (stepped .step .ensures) (c .enum-told2 .given .1) σ o p))
 
 returns-3 : tie.Need-returns-3 Inv-loop μ-loop
 returns-3 c =
-    let up = c .before .before .before .before in
-    let s = up .before .before .before .before .before in
-    ends-by s (λ σ o p. absurd (never-unnamed (s .step .ensures) _ (up .count .given .1) (rw (c .enum-told3 .given .1) at (c .before .before .parent-of .ensures)) σ o p))
+    let counted : tie.After-count Inv-loop μ-loop = search in
+    let stepped : tie.After-step Inv-loop μ-loop = search in
+    ends-by stepped (λ σ o p. absurd (never-unnamed (stepped .step .ensures) _ (counted .count .given .1) (rw (c .enum-told3 .given .1) at (c .before .before .parent-of .ensures)) σ o p))
+
+-- where the turn began, from where the parent is known
+unfoldable turn-of : tie.After-known-told2 Inv-loop μ-loop → tie.At-loop Inv-loop μ-loop
+turn-of told = search
 
 -- what was read off the path
-abbrev step-of : tie.After-count Inv-loop μ-loop → tie.After-step Inv-loop μ-loop
-step-of c = c .before .before .before .before .before
-
-abbrev count-of : tie.After-known-told2 Inv-loop μ-loop → tie.After-count Inv-loop μ-loop
-count-of c = c .before .before .before .before .before
-
-parent : (c : tie.After-known-told2 Inv-loop μ-loop) → (let l = loop-of (step-of (count-of c)) in
+parent : (c : tie.After-known-told2 Inv-loop μ-loop) → (let l = turn-of c in
     let a = start l .args in
     ParentIs (a .slots .now) (a .places .now) (l .loop .depth) (Block (c .before .parent .given .0 .0) (c .before .parent .given .0 .1 .0)))
+unfolding turn-of
 parent c = rw (c .before .parent .given .1) at (c .before .before .before .parent-of .ensures)
 
 loop-again : tie.Need-loop-again Inv-loop μ-loop
+unfolding turn-of
 loop-again c =
-    let s = step-of (count-of c) in
-    let l = loop-of s in
+    let counted : tie.After-count Inv-loop μ-loop = search in
+    let stepped : tie.After-step Inv-loop μ-loop = search in
+    let l : tie.At-loop Inv-loop μ-loop = search in
     let i = l .loop .inv .0 in
-    let up = count-of c .count .given .1 in
+    let up = counted .count .given .1 in
     let n = parent c in (
       record {
-        fits = fits-kept (start l .args .change .layout) (l .loop .store) (s .step .last .0) (s .step .ensures .kept) (i .fits);
-        scratch-long = s .step .ensures .scratch-long ∙ i .scratch-long;
+        fits = fits-kept (start l .args .change .layout) (l .loop .store) (stepped .step .last .0) (stepped .step .ensures .kept) (i .fits);
+        scratch-long = stepped .step .ensures .scratch-long ∙ i .scratch-long;
         slot-below = omega (arith, n .0, n .1, i .path-below (l .loop .depth - 1) (omega (arith, n .0)));
         place-to = n .3;
         out-to = omega arith;
-        coming-to = omega (arith, subst FewHandedUp up (s .step .ensures .bounds));
+        coming-to = omega (arith, subst FewHandedUp up (stepped .step .ensures .bounds));
         deep = omega (arith, i .deep);
         path-below = λ j h. i .path-below j (omega arith);
       },
-      kept-then (l .loop .inv .1) (s .step .ensures .kept),
-      λ σ o p. named σ (sym (n .1)) (sym (n .2)) (moves-up (s .step .ensures) _ up σ o (l .loop .inv .2 σ o p) (n .0)),
+      kept-then (l .loop .inv .1) (stepped .step .ensures .kept),
+      λ σ o p. named σ (sym (n .1)) (sym (n .2)) (moves-up (stepped .step .ensures) _ up σ o (l .loop .inv .2 σ o p) (n .0)),
     )
 
 pub propagate-spec : {M : Type 1} → statement M
+unfolding turn-of
 propagate-spec =
     tie.close
     (tie.spec
@@ -146,7 +152,7 @@ propagate-spec =
     (λ c. search needs)
     returns-2
     (λ c. search needs)
-    (λ c κs. loop-of (step-of (c .before)) .loop .inv .0 .deep)
+    (λ c κs. let turn : tie.At-loop Inv-loop μ-loop = search in turn .loop .inv .0 .deep)
     (λ c. search needs)
     (λ c. search needs)
     (λ c. search needs)
