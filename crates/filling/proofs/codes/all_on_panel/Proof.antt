@@ -16,13 +16,17 @@ abbrev μ-loop : tie.MeasureT-loop
 μ-loop codes order end at₀ at = length codes - at
 
 returns : tie.Need-returns Inv-loop μ-loop
-returns c = let t = c .before .before .before .before in off-panel _ _ (t .loop .at) (t .loop .inv) (omega arith) (omega (arith, c .if1 .taken, c .before .wide .ensures, t .before .block-size .ensures))
+returns c =
+    let turn : tie.At-loop Inv-loop μ-loop = search in
+    off-panel _ _ (turn .loop .at) (turn .loop .inv) (omega arith) (omega (arith, c .if1 .taken, c .before .wide .ensures, turn .before .block-size .ensures))
 
 loop-again : tie.Need-loop-again Inv-loop μ-loop
-loop-again c = let t = c .before .before .before .before in on-panel-next _ _ (t .loop .at) (t .loop .inv) (omega arith) (omega (arith, c .if1 .left, c .before .wide .ensures, t .before .block-size .ensures))
+loop-again c =
+    let turn : tie.At-loop Inv-loop μ-loop = search in
+    on-panel-next _ _ (turn .loop .at) (turn .loop .inv) (omega arith) (omega (arith, c .if1 .left, c .before .wide .ensures, turn .before .block-size .ensures))
 
 returns-2 : tie.Need-returns-2 Inv-loop μ-loop
-returns-2 c = let t = c .before in all-on-panel _ _ (t .loop .at) (t .loop .inv) (omega arith)
+returns-2 c = let turn = c .before in all-on-panel _ _ (turn .loop .at) (turn .loop .inv) (omega arith)
 
 pub all-on-panel-spec : {M : Type 1} → statement M
 all-on-panel-spec =

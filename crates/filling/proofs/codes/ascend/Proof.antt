@@ -16,14 +16,18 @@ abbrev μ-loop : tie.MeasureT-loop
 μ-loop codes from₀ at₀ from at = length codes - at
 
 returns : tie.Need-returns Inv-loop μ-loop
-returns c = let l = c .before .before .before .before .loop in falls-back _ (l .at) (l .from) (l .inv) (omega arith) (omega (arith, c .if1 .taken, c .before .wide .ensures))
+returns c =
+    let turn : tie.At-loop Inv-loop μ-loop = search in
+    let l = turn .loop in
+    falls-back _ (l .at) (l .from) (l .inv) (omega arith) (omega (arith, c .if1 .taken, c .before .wide .ensures))
 
 add-from : tie.Need-add-from Inv-loop μ-loop
-add-from c = omega (arith, c .before .wide .ensures, c .before .before .shared-slice-known2 .given (c .before .before .before .before .loop .at))
+add-from c = let turn : tie.At-loop Inv-loop μ-loop = search in omega (arith, c .before .wide .ensures, c .before .before .shared-slice-known2 .given (turn .loop .at))
 
 loop-again : tie.Need-loop-again Inv-loop μ-loop
 loop-again c =
-    let l = c .before .before .before .before .loop in
+    let turn : tie.At-loop Inv-loop μ-loop = search in
+    let l = turn .loop in
     rw (c .before .wide .ensures) (ascend-next _ (l .at) (l .from) (l .inv) (omega arith) (omega (arith, c .if1 .left, c .before .wide .ensures)))
 
 returns-2 : tie.Need-returns-2 Inv-loop μ-loop
