@@ -20,37 +20,39 @@ loop-holds c = let a = c .before .args in (omega arith, none-renumbered (a .layo
 
 renumber-slot-requires : tie.Need-renumber-slot-requires Inv-loop μ-loop
 renumber-slot-requires c κs =
-    let l = c .before .before .before .before in
-    let s = l .before .before in
-    ((fits-renumbered (s .pre .fits) (l .loop .inv .1), omega (arith, c .wide .ensures, s .pre .path-below (l .loop .i) (omega arith))), omega (arith, s .pre .removed-to, s .pre .inserted-to))
+    let turn : tie.At-loop Inv-loop μ-loop = search in
+    let start : tie.Start Inv-loop μ-loop = search in
+    ((fits-renumbered (start .pre .fits) (turn .loop .inv .1), omega (arith, c .wide .ensures, start .pre .path-below (turn .loop .i) (omega arith))), omega (arith, start .pre .removed-to, start .pre .inserted-to))
 
 loop-again : tie.Need-loop-again Inv-loop μ-loop
 loop-again c =
-    let r = c .before .before in
-    let l = r .before .before .before .before .before in
-    let s = l .before .before in
-    let a = s .args in (
+    let renumbered = c .before .before in
+    let turn : tie.At-loop Inv-loop μ-loop = search in
+    let start : tie.Start Inv-loop μ-loop = search in
+    let l = turn .loop in
+    let a = start .args in (
       omega arith,
-      rw add-one (one-renumbered (a .layout) (pathSlots (a .slots .now) (l .loop .i)) _ (a .removed) (a .inserted) (a .store .now) (l .loop .store) _ (fits-renumbered (s .pre .fits) (l .loop .inv .1))
-          (s .pre .path-below (l .loop .i) (omega arith)) (l .loop .inv .1) (rw (r .before .wide .ensures) at (r .renumber-slot .ensures))),
+      rw add-one (one-renumbered (a .layout) (pathSlots (a .slots .now) (l .i)) _ (a .removed) (a .inserted) (a .store .now) (l .store) _ (fits-renumbered (start .pre .fits) (l .inv .1))
+          (start .pre .path-below (l .i) (omega arith)) (l .inv .1) (rw (renumbered .before .wide .ensures) at (renumbered .renumber-slot .ensures))),
     )
 
 renumber-slot-requires-2 : tie.Need-renumber-slot-requires-2 Inv-loop μ-loop
 renumber-slot-requires-2 c κs =
-    let l = c .before .before .before in
-    let s = l .before .before in
-    ((fits-renumbered (s .pre .fits) (l .loop .inv .1), omega (arith, c .wide2 .ensures, s .pre .slot-below)), omega (arith, s .pre .removed-to, s .pre .inserted-to))
+    let turn : tie.At-loop Inv-loop μ-loop = search in
+    let start : tie.Start Inv-loop μ-loop = search in
+    ((fits-renumbered (start .pre .fits) (turn .loop .inv .1), omega (arith, c .wide2 .ensures, start .pre .slot-below)), omega (arith, start .pre .removed-to, start .pre .inserted-to))
 
 returns : tie.Need-returns Inv-loop μ-loop
 returns c =
-    let r = c .before .before in
-    let l = r .before .before .before .before in
-    let s = l .before .before in
-    let a = s .args in
-    let e : l .loop .i ≡ a .located .depth = omega arith in
-    let h = rw e at (l .loop .inv .1) in
-    one-renumbered (a .layout) (pathSlots (a .slots .now) (a .located .depth)) _ (a .removed) (a .inserted) (a .store .now) (l .loop .store) _ (fits-renumbered (s .pre .fits) (l .loop .inv .1))
-    (s .pre .slot-below) h (rw (r .before .wide2 .ensures) at (r .renumber-slot2 .ensures))
+    let renumbered = c .before .before in
+    let turn : tie.At-loop Inv-loop μ-loop = search in
+    let start : tie.Start Inv-loop μ-loop = search in
+    let l = turn .loop in
+    let a = start .args in
+    let e : l .i ≡ a .located .depth = omega arith in
+    let h = rw e at (l .inv .1) in
+    one-renumbered (a .layout) (pathSlots (a .slots .now) (a .located .depth)) _ (a .removed) (a .inserted) (a .store .now) (l .store) _ (fits-renumbered (start .pre .fits) (l .inv .1))
+    (start .pre .slot-below) h (rw (renumbered .before .wide2 .ensures) at (renumbered .renumber-slot2 .ensures))
 
 same-length : tie.Need-same-length Inv-loop μ-loop
 same-length c = returns c .long
@@ -63,7 +65,7 @@ renumber-path-spec =
     μ-loop
     loop-holds
     (λ c. search needs)
-    (λ c. omega (arith, c .before .before .before .before .pre .deep))
+    (λ c. let start : tie.Start Inv-loop μ-loop = search in omega (arith, start .pre .deep))
     (λ c κs. search needs)
     renumber-slot-requires
     (λ c. search needs)
