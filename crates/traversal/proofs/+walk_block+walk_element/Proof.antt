@@ -72,7 +72,8 @@ pub +walk-block+walk-element-spec : {M : Type 1} → statement M
     unsound-at (looked .before .before .loop .inv .1) (looked .before .loop-test .taken) (looked .element-at .ensures) (passed .next .given .1)
     (passed .before .before .pass-element .ensures) (c .enum-told3 .given .1) (walked .walk-element .ensures))
     (λ c.
-    let passed = c .before .before .before .before .before in
+    let walked = c .before .before .before in
+    let passed = walked .before .before in
     let looked = passed .before .before .before in
     record { fits = next-fits (looked .before .before .loop .inv .1) (looked .before .loop-test .taken) })
     (λ c. search needs)
@@ -89,16 +90,19 @@ pub +walk-block+walk-element-spec : {M : Type 1} → statement M
     (λ c.
     let ended = c .before .before in
     too-long (ended .before .before .loop .inv .1) (ended .before .loop-test .left) (ended .block-end .ensures) (c .if1 .taken))
-    (λ c. omega (arith, number-there (c .before .before .before .before .before .loop .inv .1)))
+    (λ c. let ended = c .before .before .before in omega (arith, number-there (ended .before .before .loop .inv .1)))
     (λ c.
     let fitted = c .before .before .before in
-    omega (arith, pixels-grow (fitted .before .before .before .before .loop .inv .1)))
+    let ended = fitted .before .before in
+    omega (arith, pixels-grow (ended .before .before .loop .inv .1)))
     (λ c.
-    let fitted = c .before .before .before .before in
+    let read = c .before .before .before in
+    let fitted = read .before in
     let ended = fitted .before .before in
     misnumbered (ended .before .before .loop .inv .1) (ended .before .loop-test .left) (λ same. omega (arith, same, c .if2 .taken)))
     (λ c.
-    let fitted = c .before .before .before .before in
+    let read = c .before .before .before in
+    let fitted = read .before in
     let ended = fitted .before .before in
     block-whole (ended .before .before .loop .inv .1) (ended .before .loop-test .left) (ended .block-end .ensures) (fitted .if1 .left) (omega (arith, c .if2 .left))))
     λ t. walk-element-lts.spec (_, see-pixel.Learnt, _, wide.Learnt, _, walk-block.Post) _ walk-element.Post
