@@ -7,18 +7,18 @@ use Rattle.pkreg.proofs.pk_check.Tie as tie
 
 returns : tie.Need-returns
 returns c =
-    let call = c .before .before .before .check in
-    subst (CheckMeets _) (sym (c .accepted .ensures)) (rw (c .before .enum-told .given .1) at (call .ensures))
+    let checked : tie.After-check = search in
+    subst (CheckMeets _) (sym (c .accepted .ensures)) (rw (c .before .enum-told .given .1) at (checked .check .ensures))
 
 returns-2 : tie.Need-returns-2
 returns-2 c =
-    let call = c .before .before .before .check in
-    subst (CheckMeets _) (sym (c .accepted2 .ensures)) (rw (c .before .enum-told2 .given .1) at (call .ensures))
+    let checked : tie.After-check = search in
+    subst (CheckMeets _) (sym (c .accepted2 .ensures)) (rw (c .before .enum-told2 .given .1) at (checked .check .ensures))
 
 returns-3 : tie.Need-returns-3
 returns-3 c =
-    let call = c .before .before .before .before .check in
-    rw (c .before .before .refusal .given .1, ← c .refused .ensures) at (call .ensures)
+    let checked : tie.After-check = search in
+    rw (c .before .before .refusal .given .1, ← c .refused .ensures) at (checked .check .ensures)
 
 pub pk-check-spec : {M : Type 1} → statement M
 pk-check-spec =

@@ -19,7 +19,8 @@ layout-of-requires c κs =
 
 returns-2 : tie.Need-returns-2
 returns-2 c =
-    let a = c .before .before .before .before .args in
+    let start : tie.Start = search in
+    let a = start .args in
     needed-within (a .k) (a .most) _
     (layout-of-requires (c .before .before) (c .before .layout-of .lifetimes))
     (rw (c .before .layout-of .ensures .is) at (c .store-end .ensures))
