@@ -20,12 +20,12 @@ pixel-number-requires c κs = codes-part-requires (c .before .before .before) (c
 
 byte-at-requires : tie.Need-byte-at-requires
 byte-at-requires c κs =
-    let parts = c .before .before .before .before in
+    let parts : tie.After-codes-part = search in
     omega (arith, codes-part-requires (parts .before) (parts .codes-part .lifetimes) .header)
 
 byte-at-requires-2 : tie.Need-byte-at-requires-2
 byte-at-requires-2 c κs =
-    let parts = c .before .before .before .before .before in
+    let parts : tie.After-codes-part = search in
     omega (arith, codes-part-requires (parts .before) (parts .codes-part .lifetimes) .header)
 
 pub print-image-spec : {M : Type 1} → statement M

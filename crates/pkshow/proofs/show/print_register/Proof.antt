@@ -36,7 +36,7 @@ print-register-spec =
     (λ c. search needs)
     (λ c. search needs)
     (λ c. search (needs, fits-output))
-    (λ c. let saved = c .before .before in sym (length-take-le _ _ (fits-output (saved .length .given .1) (saved .before .before .before .before .save .ensures))))
+    (λ c. let told = c .before .before in let saved : tie.After-save = search in sym (length-take-le _ _ (fits-output (told .length .given .1) (saved .save .ensures))))
     (λ c κs. search needs)
     (λ c. search needs)
     (λ c. search needs))
