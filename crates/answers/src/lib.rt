@@ -1,4 +1,6 @@
 // What the calls answer: a result or a refusal, and 01's number for each.
+#![tactic(auto)]
+
 ghost use Rattle.std.specs.Prelude.{◌≡◌};
 ghost use Rattle.answers.specs.Answer.{answer, number_of};
 

@@ -1,4 +1,6 @@
 // Asking: one descent finds the smallest block that contains a pixel; it and the blocks passed on the way are those opened.
+#![tactic(auto)]
+
 ghost use Rattle.std.specs.Prelude.{◌≡◌};
 ghost use Rattle.pktree.specs.Panel.{OnPanel};
 ghost use Rattle.measures.specs.Sizes.{UsableStore, panel_of, sizes_of};

@@ -1,4 +1,6 @@
 // The search on a store, best first: of the blocks that it has met, the nearest is opened next.
+#![tactic(auto)]
+
 ghost use Rattle.std.specs.Prelude.{◌+◌, ◌≤◌, ◌≡◌, length};
 ghost use Rattle.measures.specs.Layout.{LayoutFits, LaidOut, most_elements};
 ghost use Rattle.measures.specs.Sizes.{sizes_of};

@@ -1,4 +1,6 @@
 // Collecting: the walks of a list, over the blocks that share a pixel with the window. Each code found is written behind the one before it.
+#![tactic(auto)]
+
 ghost use Rattle.std.specs.Prelude.{◌≤◌, length};
 ghost use Rattle.measures.specs.Layout.{LayoutFits};
 ghost use Rattle.query.specs.Counting.{CanQuery};

@@ -1,3 +1,5 @@
+#![tactic(auto)]
+
 ghost use Rattle.std.specs.Prelude.{◌+◌, ◌*◌, ◌≤◌, ◌<◌, ◌≡◌, true, length};
 ghost use Rattle.measures.specs.Slot.{element_index};
 ghost use Rattle.measures.specs.Layout.{LayoutFits, most_elements};

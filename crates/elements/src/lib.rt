@@ -1,4 +1,6 @@
 // The elements in one slot: read, found by their code, spliced; and the header of a slot, written.
+#![tactic(auto)]
+
 ghost use Rattle.std.specs.Prelude.{◌+◌, ◌*◌, ◌≤◌, ◌<◌, ◌≡◌, length, drop};
 ghost use Rattle.std.proofs.Math.Seq.{paste};
 ghost use Rattle.elements.specs.Element.{block_tag, element_of, element_at};

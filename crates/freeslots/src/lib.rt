@@ -1,4 +1,6 @@
 // The chain of free slots: a slot taken out of it, a slot given back, the slots from one on put into it.
+#![tactic(auto)]
+
 ghost use Rattle.std.specs.Prelude.{◌+◌, ◌≤◌, ◌<◌};
 ghost use Rattle.measures.specs.Layout.{LayoutFits};
 ghost use Rattle.freeslots.specs.FreeSlots.{TookFree, Released, FreeFrom};

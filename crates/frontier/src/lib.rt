@@ -1,5 +1,7 @@
 // The blocks that a search has met and not opened: entries in two arrays, from the first place on, as a binary heap. Each has a key, by
 // which the least is taken, and a tag, which says what it is. Above the place i stands (i - 1) / 2.
+#![tactic(auto)]
+
 ghost use Rattle.std.specs.Prelude.{suc, ◌/◌, ◌≤◌, ◌<◌, length};
 ghost use Rattle.frontier.specs.Entries.{Heap, Pushed, Taken};
 ghost use Rattle.frontier.specs.Holes.{Lesser, Sifted};

@@ -1,4 +1,6 @@
 // Whole lists of calls: what survives, and the claim about every two lists. replay runs such a list.
+#![tactic(auto)]
+
 ghost use Rattle.std.specs.Prelude.{◌+◌, ◌*◌, ◌≤◌, ◌≡◌, length, take, drop};
 ghost use Rattle.promises.specs.Survivors.{list, save, load, fill};
 ghost use Rattle.history.specs.Run.{Step, Run};

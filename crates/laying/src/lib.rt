@@ -1,4 +1,6 @@
 // A block laid into a slot: its header, its elements and the number of its pixels.
+#![tactic(auto)]
+
 ghost use Rattle.std.specs.Prelude.{◌*◌, ◌≤◌, length, take};
 ghost use Rattle.measures.specs.Layout.{most_elements};
 ghost use Rattle.measures.specs.Slot.{element_index};

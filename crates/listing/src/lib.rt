@@ -1,4 +1,6 @@
 // Listing: the pixels of a window are counted, and then written where the output has room for them.
+#![tactic(auto)]
+
 ghost use Rattle.std.specs.Prelude.{◌≡◌};
 ghost use Rattle.measures.specs.Sizes.{UsableStore, sizes_of, panel_of};
 ghost use Rattle.promises.specs.Effect.{effect};

@@ -1,3 +1,5 @@
+#![tactic(auto)]
+
 ghost use Rattle.std.specs.Prelude.{◌≡◌, ◌*◌, ◌/◌, ◌^◌, ◌<◌, ◌≤◌, nat_le};
 ghost use Rattle.morton.specs.Code.{spread_bits, gather_bits, code_of, x_of, y_of};
 ghost use Rattle.morton.specs.Coordinate.{Between, Coordinate, largest_side};

@@ -1,5 +1,7 @@
 // Packing: strictly ascending codes, appended one by one. The elements that no complete block has taken yet lie on a stack; a
 // block is packed into the next slot as soon as a code beyond it comes.
+#![tactic(auto)]
+
 ghost use Rattle.std.specs.Prelude.{◌*◌, ◌+◌, ◌≤◌, ◌<◌, ◌≡◌, length};
 ghost use Rattle.packing.specs.Growing.{stack_words};
 ghost use Rattle.packing.specs.Build.{empty_build, NoneComplete, RunStart, PackDue, PackedRun, PushDue, PushedCode, PackCompleteDue, PackCompleteDone, AppendDue, AppendDone};

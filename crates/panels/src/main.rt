@@ -1,4 +1,6 @@
 // 01 "Sample panels", run through the public calls: what is printed is compared with the file stdout beside src.
+#![tactic(auto)]
+
 ghost use Rattle.std.specs.Prelude.{◌≡◌, length};
 
 use crate::entries::print_image;

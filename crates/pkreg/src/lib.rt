@@ -1,5 +1,7 @@
 // The register for C, and for what calls C: numbers and slices only, each call register's own. None has a requires; each has one
 // ensures, register's own, of the numbers handed over.
+#![tactic(auto)]
+
 ghost use Rattle.std.specs.Prelude.{◌≡◌};
 ghost use Rattle.promises.specs.Answer.{yes_no};
 ghost use Rattle.answers.specs.Answer.{number_of};

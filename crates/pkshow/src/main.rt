@@ -1,4 +1,6 @@
 // 01 "Program pkshow": shows the image on standard input.
+#![tactic(auto)]
+
 mod show;
 
 fn main() {

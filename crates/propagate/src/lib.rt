@@ -1,4 +1,6 @@
 // A change on its way up the path, block by block, until it is at rest.
+#![tactic(auto)]
+
 ghost use Rattle.std.specs.Prelude.{◌≤◌};
 ghost use Rattle.propagate.specs.Propagate.{ParentIs, CanPropagate, PropagateMeets};
 

@@ -1,4 +1,6 @@
 // Reading an image: who is refused with 12. It takes bytes and panel, no store and no N.
+#![tactic(auto)]
+
 ghost use Rattle.std.specs.Prelude.{◌+◌, ◌*◌, ◌^◌, ◌≤◌, ◌<◌, ◌≡◌, length};
 ghost use Rattle.measures.specs.Decides.{Decides};
 ghost use Rattle.image.specs.Judged.{ImageOfSome};

@@ -1,4 +1,6 @@
 // The register of unfit pixels: the calls that are open to users. None has a requires; each has one ensures, over 01's number and values of its answer.
+#![tactic(auto)]
+
 ghost use Rattle.answers.specs.Answer.{answer, ask_answer, count_answer, list_answer, save_answer, check_answer, search_answer};
 ghost use Rattle.promises.specs.Calls.{MakeMeets, MarkMeets, ClearMeets, AskMeets, NearestMeets, CountMeets, ListMeets, SaveMeets, LoadMeets, FillMeets, CheckMeets};
 

@@ -1,4 +1,6 @@
 // Renumbering: the numbers that the blocks along a path carry, after a pixel comes or goes.
+#![tactic(auto)]
+
 ghost use Rattle.std.specs.Prelude.{◌≤◌, ◌<◌, ◌∷◌};
 ghost use Rattle.measures.specs.Layout.{LayoutFits};
 ghost use Rattle.renumbering.specs.Renumber.{ChangedNumber, Renumbered, CanRenumber, PathRenumbered, path_slots};

@@ -1,5 +1,7 @@
 // The claim about two lists, at work: a list of calls drawn at random and the list of its survivors, marked in falling order, are replayed on two
 // registers; the two images must be the same bytes, and one pixel less another image.
+#![tactic(auto)]
+
 use crate::drawn::word_drawn;
 use answers::{Listing, Saving, refusal_of};
 use measures::slots::wide;

@@ -1,4 +1,6 @@
 // Rewriting slots: each is lent on for writing as a part of the store.
+#![tactic(auto)]
+
 ghost use Rattle.std.specs.Prelude.{◌+◌, ◌-◌, ◌*◌, ◌≤◌, ◌<◌, ◌≡◌, length};
 ghost use Rattle.std.proofs.Math.Seq.{paste};
 ghost use Rattle.measures.specs.Layout.{LayoutFits, most_elements};

@@ -1,4 +1,6 @@
 // Where a block is to be formed: the run of elements that it takes. It only reads.
+#![tactic(auto)]
+
 ghost use Rattle.std.specs.Prelude.{◌≤◌};
 ghost use Rattle.elements.specs.Splice.{PlaceOf};
 ghost use Rattle.runs.specs.Run.{ElementsLaid, LevelAt, LevelBefore, ReachedLeft, ReachedRight, RunMeets};

@@ -1,4 +1,6 @@
 // Saving: a walk over every block, which writes the image. Its length is known before: 01's refusal 9 leaves the output as it was.
+#![tactic(auto)]
+
 ghost use Rattle.std.specs.Prelude.{◌≡◌, ◌+◌, ◌*◌, ◌<◌, ◌≤◌, length};
 ghost use Rattle.saving.specs.Saving.{PixelPut, CanSave, BlockSaved, ImageWritten, FrontWritten};
 ghost use Rattle.promises.specs.Effect.{effect};

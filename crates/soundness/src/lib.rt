@@ -1,4 +1,6 @@
 // Whether a store is sound: the core of 01's check. It only reads, looks at no more blocks than there are slots, and keeps no scratch memory.
+#![tactic(auto)]
+
 ghost use Rattle.std.specs.Prelude.{◌≡◌};
 ghost use Rattle.measures.specs.Decides.{Decides};
 ghost use Rattle.measures.specs.Sizes.{UsableStore, sizes_of};

@@ -1,4 +1,6 @@
 // One block of the path of a change: its elements change, a block is formed in it, or its elements go up.
+#![tactic(auto)]
+
 ghost use Rattle.std.specs.Prelude.{◌≤◌, ◌<◌};
 ghost use Rattle.rewrite.specs.Rewrite.{CanHandUp};
 ghost use Rattle.step.specs.Step.{CanPut, PutMeets, CanRegroup, RegroupMeets, UnderfullMeets, StepMeets};

@@ -1,4 +1,6 @@
 // How many pixels elements stand for: each pixel for itself, each block for the number that its slot says.
+#![tactic(auto)]
+
 ghost use Rattle.std.specs.Prelude.{◌*◌, ◌≤◌, ◌≡◌, length};
 ghost use Rattle.measures.specs.Layout.{LayoutFits, most_elements};
 ghost use Rattle.measures.specs.Sizes.{largest_most};

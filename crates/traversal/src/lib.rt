@@ -1,4 +1,6 @@
 // The traversal of check: every block is opened once, in the order of the tree, and what each says of itself is compared with what is in it.
+#![tactic(auto)]
+
 ghost use Rattle.std.specs.Prelude.{◌≤◌};
 ghost use Rattle.measures.specs.Sizes.{largest_most};
 ghost use Rattle.traversal.specs.Walk.{CanWalk, OpenMeets, WalkMeets, CanWalkElement, WalkElementMeets, WithinLimits, PixelMeets};

@@ -1,4 +1,6 @@
 // Random histories of calls, each on a register and on the plain set: what is printed is compared with the file stdout beside src.
+#![tactic(auto)]
+
 ghost use Rattle.std.specs.Prelude.{◌≤◌};
 
 use crate::draws::panel_drawn;

@@ -1,4 +1,6 @@
 // What every walk over the blocks of a store begins with: the slot that an element names is entered.
+#![tactic(auto)]
+
 ghost use Rattle.std.specs.Prelude.{◌<◌, ◌≡◌};
 ghost use Rattle.measures.specs.Layout.{LayoutFits};
 ghost use Rattle.measures.specs.Slot.{slot_part};

@@ -1,4 +1,6 @@
 // The window of a call: its part on the panel between two codes, and how a pixel or a block lies to it.
+#![tactic(auto)]
+
 ghost use Rattle.std.specs.Prelude.{min, ◌≡◌};
 ghost use Rattle.measures.specs.Sizes.{ValidSizes, panel_of};
 ghost use Rattle.windows.specs.Corners.{window_of, PartOf, PixelTested, SharingTested, InsideTested, LyingTested, PanelTested};
