@@ -4,7 +4,7 @@ ghost use Rattle.answers.specs.Judged.{JudgedPixel, JudgedWindow};
 use crate::Refusal;
 use measures::sizes::{Sizes, SizesRead, read_sizes};
 
-#[derive(Drop)]
+#[derive(Clone, Copy)]
 pub enum PixelJudged {
     Pixel { sizes: Sizes, code: u32 },
     Refused(Refusal),
@@ -30,7 +30,7 @@ pub fn judge_pixel(store: &[u32], x: u32, y: u32) -> PixelJudged
     }
 }
 
-#[derive(Drop)]
+#[derive(Clone, Copy)]
 pub enum WindowJudged {
     Window(Sizes),
     Refused(Refusal),

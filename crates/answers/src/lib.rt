@@ -7,7 +7,7 @@ ghost use Rattle.answers.specs.Answer.{answer, number_of};
 pub mod judging;
 
 // 01 "Who is refused, and how", and 02: the refusals, in the order of their numbers, 1 to 15.
-#[derive(Drop)]
+#[derive(Clone, Copy)]
 pub enum Refusal {
     BeyondLimits,
     StoreTooShort,
@@ -50,7 +50,7 @@ pub fn number_of(refusal: Refusal) -> u32
 }
 
 // What make, mark, clear, load and fill answer: done, or why not.
-#[derive(Drop)]
+#[derive(Clone, Copy)]
 pub enum Outcome {
     Done,
     Refused(Refusal),
@@ -67,7 +67,7 @@ pub fn refusal_of(outcome: Outcome) -> u32
 }
 
 // Whether a pixel is marked, the blocks opened, and 02, P8: the level and code of the smallest block that contains it.
-#[derive(Drop)]
+#[derive(Clone, Copy)]
 pub struct Place {
     pub marked: bool,
     pub opened: usize,
@@ -76,14 +76,14 @@ pub struct Place {
 }
 
 // What ask answers.
-#[derive(Drop)]
+#[derive(Clone, Copy)]
 pub enum Asking {
     Answered(Place),
     Refused(Refusal),
 }
 
 // What count answers.
-#[derive(Drop)]
+#[derive(Clone, Copy)]
 pub enum Counting {
     Found { found: u32, opened: u32 },
     Refused(Refusal),
@@ -91,7 +91,7 @@ pub enum Counting {
 
 // 02, P5: the nearest pixel found, if any, its squared distance, the blocks opened, the squared distance below which no marked pixel can be,
 // and whether the search is complete.
-#[derive(Drop)]
+#[derive(Clone, Copy)]
 pub struct Nearest {
     pub found: bool,
     pub code: u32,
@@ -102,14 +102,14 @@ pub struct Nearest {
 }
 
 // What nearest answers.
-#[derive(Drop)]
+#[derive(Clone, Copy)]
 pub enum Searching {
     Ended(Nearest),
     Refused(Refusal),
 }
 
 // What list answers; `Short` is refusal 9, with the words needed.
-#[derive(Drop)]
+#[derive(Clone, Copy)]
 pub enum Listing {
     Found { found: u32, opened: u32 },
     Short(u32),
@@ -117,7 +117,7 @@ pub enum Listing {
 }
 
 // What save answers; `Short` is refusal 9, with the bytes needed.
-#[derive(Drop)]
+#[derive(Clone, Copy)]
 pub enum Saving {
     Saved(usize),
     Short(usize),
@@ -125,7 +125,7 @@ pub enum Saving {
 }
 
 // What check answers.
-#[derive(Drop)]
+#[derive(Clone, Copy)]
 pub enum Checking {
     Sound,
     Unsound,

@@ -23,7 +23,7 @@ use store::opening::Opening;
 use walks::part_of;
 
 // One block opened: the nearest pixel and the number of blocks met after it.
-#[derive(Drop)]
+#[derive(Clone, Copy)]
 pub enum Turn {
     Opened(Best, usize),
     Damaged,
@@ -60,7 +60,7 @@ fn open_block(
 }
 
 // How far a search is: the blocks met and not opened, which the arrays hold, those opened, and the nearest pixel.
-#[derive(Drop)]
+#[derive(Clone, Copy)]
 pub struct Progress {
     pub met: usize,
     pub opened: u32,
@@ -68,7 +68,7 @@ pub struct Progress {
 }
 
 // The search ended; or it stopped for want of room, and can go on from there; or the words are damaged.
-#[derive(Drop)]
+#[derive(Clone, Copy)]
 pub enum Searched {
     Known(Nearest),
     Full(Progress),

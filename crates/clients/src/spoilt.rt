@@ -27,7 +27,7 @@ fn make_and_spoil(store: &mut [u32])
 }
 
 // What two calls in a row were refused with.
-#[derive(Drop)]
+#[derive(Clone, Copy)]
 pub struct Numbers {
     pub first: u32,
     pub second: u32,

@@ -12,14 +12,14 @@ use measures::slots::{SLOT_HEAD, slot_part, wide};
 use store::opening::{Opening, open_part};
 
 // What the elements of one block show of a code: it ends here, at a pixel of its own or between two elements, or in an inner block.
-#[derive(Drop)]
+#[derive(Clone, Copy)]
 pub enum Ahead {
     Here { place: usize, marked: bool },
     Inner(Child),
 }
 
 // An element that is a block: its place among the elements, and what it says of the block.
-#[derive(Drop)]
+#[derive(Clone, Copy)]
 pub struct Child {
     pub place: usize,
     pub slot: u32,
@@ -62,7 +62,7 @@ fn look(part: &[u32], count: usize, code: u32) -> Ahead
 }
 
 // The smallest block that holds a code, and where the code stands among its elements.
-#[derive(Drop)]
+#[derive(Clone, Copy)]
 pub struct Located {
     pub damaged: bool,
     pub marked: bool,

@@ -13,7 +13,7 @@ use measures::slots::{
 };
 
 // 01: an element is either a pixel with its code or a block with its slot, here with its level and code as well.
-#[derive(Drop)]
+#[derive(Clone, Copy)]
 pub enum Element {
     Pixel(u32),
     Block(u32, u32, u32),

@@ -9,7 +9,7 @@ use measures::sizes::Layout;
 use measures::slots::{NEXT, offset, wide};
 use measures::words::{BLOCKS, FIRST_FREE};
 
-#[derive(Drop)]
+#[derive(Clone, Copy)]
 pub enum FreeSlot {
     Taken(u32),
     Missing,

@@ -6,7 +6,7 @@ ghost use Rattle.std.specs.Prelude.{suc, ◌/◌, ◌≤◌, ◌<◌, length};
 ghost use Rattle.frontier.specs.Entries.{Heap, Pushed, Taken};
 ghost use Rattle.frontier.specs.Holes.{Lesser, Sifted};
 
-#[derive(Drop)]
+#[derive(Clone, Copy)]
 pub struct Entry {
     pub key: u64,
     pub tag: u32,

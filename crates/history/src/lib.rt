@@ -11,7 +11,7 @@ use image::parts::part_of;
 use measures::slots::wide;
 
 // A call as words: its number and its arguments.
-#[derive(Drop)]
+#[derive(Clone, Copy)]
 pub struct Encoded {
     pub number: u32,
     pub a: u32,

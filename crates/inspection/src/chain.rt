@@ -8,7 +8,7 @@ use measures::words::FIRST_FREE;
 // The end of the chain of free slots.
 const NO_SLOT: u32 = 0xFFFFFFFF;
 
-#[derive(Drop)]
+#[derive(Clone, Copy)]
 pub enum Chain {
     Ends(usize),
     Broken,

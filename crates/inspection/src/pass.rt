@@ -8,14 +8,14 @@ use morton::block_size;
 
 // What one pass over the elements of a block knows of those behind it: the first code past them, the quarter of the last one, and how many
 // of them are in that quarter.
-#[derive(Drop)]
+#[derive(Clone, Copy)]
 pub struct Pass {
     pub from: usize,
     pub quarter: usize,
     pub met: u32,
 }
 
-#[derive(Drop)]
+#[derive(Clone, Copy)]
 pub enum Passing {
     On(Pass),
     Refused,

@@ -13,7 +13,7 @@ pub const LARGEST_MOST: u32 = 24576;
 const MARK: u32 = 0x504B0001;
 
 // m, k and N of 01.
-#[derive(Drop)]
+#[derive(Clone, Copy)]
 pub struct Sizes {
     pub order: u32,
     pub k: u32,
@@ -21,13 +21,13 @@ pub struct Sizes {
 }
 
 // Where the slots lie: their number, and the words of each.
-#[derive(Drop)]
+#[derive(Clone, Copy)]
 pub struct Layout {
     pub width: usize,
     pub slots: usize,
 }
 
-#[derive(Drop)]
+#[derive(Clone, Copy)]
 pub enum SizesRead {
     Usable(Sizes),
     Unusable,

@@ -10,7 +10,7 @@ use elements::{Element, element_at};
 pub const BEYOND: u64 = 8589934592;
 
 // The nearest pixel so far: beyond every distance while there is none, so that the first one is nearer.
-#[derive(Drop)]
+#[derive(Clone, Copy)]
 pub struct Best {
     pub distance: u64,
     pub code: u32,

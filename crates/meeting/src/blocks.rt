@@ -10,7 +10,7 @@ use elements::{Element, TAG_SLOTS, element_at};
 use frontier::push;
 
 // After some elements: the blocks met are now so many; or the words are damaged.
-#[derive(Drop)]
+#[derive(Clone, Copy)]
 pub enum Meeting {
     Upto(usize),
     Damaged,

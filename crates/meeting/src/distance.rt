@@ -4,7 +4,7 @@ ghost use Rattle.searching.specs.Distance.{apart, clamped};
 ghost use Rattle.meeting.specs.Place.{OnGrid, PlaceOf, Squared, ToPixel, ToBlock};
 
 // The place from which distances are measured.
-#[derive(Drop)]
+#[derive(Clone, Copy)]
 pub struct Place {
     pub x: u32,
     pub y: u32,

@@ -14,7 +14,7 @@ use morton::{block_around, block_index, common_level};
 use sums::number_of_elements;
 
 // What is built so far: the elements on the stack, the next slot, and the last code.
-#[derive(Drop)]
+#[derive(Clone, Copy)]
 pub struct Build {
     pub count: usize,
     pub fresh: usize,

@@ -16,7 +16,7 @@ use measures::sizes::{Sizes, layout_of, store_end, within_limits};
 
 // 01's number and values: refusal 0 is an accepted call.
 #[repr(C)]
-#[derive(Drop)]
+#[derive(Clone, Copy)]
 pub struct PkAnswer {
     pub refusal: u32,
     pub first: u32,
@@ -108,7 +108,7 @@ pub extern "C" fn pk_fill(store: &mut [u32], codes: &[u32]) -> u32
 
 // 02, P8: the values of ask, all zero beside a refusal.
 #[repr(C)]
-#[derive(Drop)]
+#[derive(Clone, Copy)]
 pub struct PkPlace {
     pub refusal: u32,
     pub marked: u32,
@@ -142,7 +142,7 @@ pub extern "C" fn pk_ask(store: &[u32], x: u32, y: u32) -> PkPlace
 
 // 02, P5: the values of nearest, all zero beside a refusal.
 #[repr(C)]
-#[derive(Drop)]
+#[derive(Clone, Copy)]
 pub struct PkNearest {
     pub distance: u64,
     pub limit: u64,

@@ -4,7 +4,7 @@ ghost use Rattle.std.specs.Prelude.{◌≤◌, ◌<◌};
 use crate::codes::size_of;
 
 // A panel of order m with its k. N is the most pixels that its register may hold, words the length that the store needs; places is five for each code.
-#[derive(Drop)]
+#[derive(Clone, Copy)]
 pub struct Panel {
     pub m: u32,
     pub k: u8,

@@ -9,7 +9,7 @@ use crate::window::Window;
 use crate::{blocks, codes, images, search, window};
 
 // A refusal and the values beside it.
-#[derive(Drop)]
+#[derive(Clone, Copy)]
 pub struct Answer {
     pub refusal: u32,
     pub first: usize,

@@ -9,7 +9,7 @@ use crate::codes::{size_of, x_of};
 type Met = [bool; 1280];
 
 // The refusal and the six values beside it.
-#[derive(Drop)]
+#[derive(Clone, Copy)]
 pub struct Search {
     pub refusal: u32,
     pub found: bool,
@@ -21,7 +21,7 @@ pub struct Search {
 }
 
 // The nearest of some elements, if there is any.
-#[derive(Drop)]
+#[derive(Clone, Copy)]
 struct Nearest {
     any: bool,
     place: u16,

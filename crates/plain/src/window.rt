@@ -3,7 +3,7 @@ use crate::blocks::{Panel, Set};
 use crate::{blocks, codes};
 
 // Both corners included.
-#[derive(Drop)]
+#[derive(Clone, Copy)]
 pub struct Window {
     pub x0: u32,
     pub y0: u32,
@@ -38,7 +38,7 @@ fn lies_inside(window: Window, level: u32, code: u32) -> bool {
 }
 
 // Which entries are counted: those of these levels that share a pixel with the window; over its edge those alone that have one outside it too.
-#[derive(Drop)]
+#[derive(Clone, Copy)]
 pub struct Sought {
     pub low: u32,
     pub high: u32,

@@ -11,7 +11,7 @@ use step::{Change, Stepped, step};
 // A block hands up fewer than k elements, and k is at most 16; an element has two words.
 const SCRATCH_WORDS: usize = 32;
 
-#[derive(Drop)]
+#[derive(Clone, Copy)]
 pub enum Parent {
     Block(usize, usize),
     Nothing,

@@ -11,7 +11,7 @@ use walks::enter;
 use windows::Corners;
 
 // What a window walk is given: where the slots lie, the window, and the most pixels (01's N).
-#[derive(Drop)]
+#[derive(Clone, Copy)]
 pub struct RangeQuery {
     pub layout: Layout,
     pub corners: Corners,
@@ -19,7 +19,7 @@ pub struct RangeQuery {
 }
 
 // What a walk comes to: the pixels found, the blocks opened, and the elements tested singly (02, P4).
-#[derive(Drop)]
+#[derive(Clone, Copy)]
 pub struct Sum {
     pub found: u32,
     pub opened: u32,

@@ -12,14 +12,14 @@ use measures::slots::wide;
 use morton::block_size;
 
 // How many elements stand at an index, and the index after their entries; or no set has these entries.
-#[derive(Drop)]
+#[derive(Clone, Copy)]
 pub enum ElementsRead {
     Elements { count: u32, next: usize },
     Wrong,
 }
 
 // The level and code of the entry that comes next, or none comes next.
-#[derive(Drop)]
+#[derive(Clone, Copy)]
 pub enum NextEntry {
     Found(u32, usize),
     Nothing,

@@ -95,7 +95,7 @@ fn number_of_run(store: &[u32], layout: Layout, part: &[u32], first: usize, size
     number_of_elements(store, layout, &part[at..], size)
 }
 
-#[derive(Drop)]
+#[derive(Clone, Copy)]
 pub enum Forming {
     Formed,
     NoSlot,

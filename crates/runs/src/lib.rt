@@ -9,7 +9,7 @@ use elements::find_place;
 use measures::slots::{ELEMENT_BEFORE, LEVEL_ABOVE_ROOT, SLOT_HEAD};
 
 // The elements that a new block is to take, where one is to be formed.
-#[derive(Drop)]
+#[derive(Clone, Copy)]
 pub enum RunFound {
     Formed {
         level: u32,

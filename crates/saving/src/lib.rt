@@ -23,7 +23,7 @@ use walks::{enter, part_of};
 pub mod numbers;
 
 // Where the slots lie, and how many entries the image has.
-#[derive(Drop)]
+#[derive(Clone, Copy)]
 pub struct ImageWalk {
     pub layout: Layout,
     pub entries: usize,

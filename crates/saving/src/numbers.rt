@@ -7,7 +7,7 @@ use measures::slots::{NUMBER, slot_part, wide};
 use measures::words::BLOCKS;
 use store::opening::{Opening, open_part};
 
-#[derive(Drop)]
+#[derive(Clone, Copy)]
 pub enum Numbers {
     Said { pixels: u32, blocks: u32 },
     Damaged,

@@ -11,14 +11,14 @@ use rewrite::{Forming, form_block, hand_up_all, hand_up_block, splice_slot};
 use runs::{RunFound, find_run};
 
 // Where the slots lie, k, and the code at which the set changes.
-#[derive(Drop)]
+#[derive(Clone, Copy)]
 pub struct Change {
     pub layout: Layout,
     pub k: usize,
     pub code: u32,
 }
 
-#[derive(Drop)]
+#[derive(Clone, Copy)]
 pub enum Placing {
     Elements(usize),
     Damaged,
@@ -54,7 +54,7 @@ fn put(
     Placing::Elements(after)
 }
 
-#[derive(Drop)]
+#[derive(Clone, Copy)]
 pub enum Stepped {
     Done,
     Up(usize),

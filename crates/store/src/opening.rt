@@ -5,7 +5,7 @@ ghost use Rattle.measures.specs.Slot.{slot_head};
 
 use measures::slots::{CODE, COUNT, LEVEL, SLOT_HEAD, wide};
 
-#[derive(Drop)]
+#[derive(Clone, Copy)]
 pub enum Opening {
     Elements(usize),
     Damaged,

@@ -12,7 +12,7 @@ use measures::slots::{NUMBER, slot_part, wide};
 use store::opening::{Opening, open_part};
 
 // What a walk is given: where the slots lie, k, and the most pixels (01's N).
-#[derive(Drop)]
+#[derive(Clone, Copy)]
 pub struct Limits {
     pub layout: Layout,
     pub k: u32,
@@ -20,21 +20,21 @@ pub struct Limits {
 }
 
 // The numbers of blocks and of pixels seen so far.
-#[derive(Drop)]
+#[derive(Clone, Copy)]
 pub struct Seen {
     pub blocks: u32,
     pub pixels: u32,
 }
 
 // All that was seen, or the words are no register's: a word is not as it must be.
-#[derive(Drop)]
+#[derive(Clone, Copy)]
 pub enum Walked {
     Whole(Seen),
     Unsound,
 }
 
 // A block as it is to be: in this slot, of this level and code, with at least so many elements.
-#[derive(Drop)]
+#[derive(Clone, Copy)]
 pub struct Claim {
     pub slot: usize,
     pub level: u32,

@@ -9,7 +9,7 @@ use plain::window::{Window, around, is_list, is_smallest};
 use plain::{calls, images};
 
 // Both answers to a call, and whether what was written is right too, or the other values of a search or of an ask are.
-#[derive(Drop)]
+#[derive(Clone, Copy)]
 pub struct Step {
     pub got: Answer,
     pub want: Answer,

@@ -19,7 +19,7 @@ use step::Change;
 const PIXELS: usize = HEAD_WORDS + NUMBER;
 
 // How the change of one pixel ends. It is disallowed where the number of pixels held does not let one come, or go.
-#[derive(Drop)]
+#[derive(Clone, Copy)]
 pub enum Changing {
     Changed,
     Already,

@@ -9,7 +9,7 @@ use measures::sizes::Sizes;
 use morton::{last_code, x_at_most, y_at_most};
 
 // 01: both corners included.
-#[derive(Drop)]
+#[derive(Clone, Copy)]
 pub struct Window {
     pub x0: u32,
     pub y0: u32,
@@ -18,14 +18,14 @@ pub struct Window {
 }
 
 // The codes of a part's lowest and highest pixel: a walk compares codes, and takes none apart.
-#[derive(Drop)]
+#[derive(Clone, Copy)]
 pub struct Corners {
     pub first: u32,
     pub last: u32,
 }
 
 // The part of a window on the panel.
-#[derive(Drop)]
+#[derive(Clone, Copy)]
 pub enum Part {
     Between(Corners),
     Empty,
@@ -104,7 +104,7 @@ pub fn lies_inside(corners: Corners, level: u32, code: u32) -> bool
 }
 
 // How a block lies to the window.
-#[derive(Drop)]
+#[derive(Clone, Copy)]
 pub enum Lying {
     Apart,
     OverEdge,
