@@ -21,7 +21,7 @@ returns : tie.Need-returns
 returns c =
     let x : ℕ = c.before.before.args.x in
     let y : ℕ = c.before.before.args.y in
-    code_law x y c.before.spread.result c.spread2.result c.before.spread.ensures c.spread2.ensures
+    code_law x y c.before.spread.result c.spread-2.result c.before.spread.ensures c.spread-2.ensures
 
 pub code_of_spec : {M : Type 1} → statement M
 code_of_spec = tie.close (tie.spec spread-requires spread-requires-2 returns)

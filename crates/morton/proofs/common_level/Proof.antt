@@ -6,10 +6,10 @@ use Rattle.morton.proofs.CommonLevels.{common_level_law}
 use Rattle.morton.proofs.common_level.Statement.{statement}
 use Rattle.morton.proofs.common_level.Tie as tie
 
-sub_result : tie.Need-overflow-sub-result
+sub_result : tie.Need-overflow_sub-result
 sub_result c = leading_le 32 (bit_xor c.args.a c.args.b)
 
-add_result : tie.Need-overflow-add-result
+add_result : tie.Need-overflow_add-result
 add_result c = search rules
 
 returns : tie.Need-returns

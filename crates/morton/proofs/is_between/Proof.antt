@@ -18,9 +18,9 @@ wrapped first last n u v hf hn hl hu hv eu ev = record { says = λ ordered. go o
 returns : tie.Need-returns
 returns c =
     let a = c.before.before in
-    wrapped a.args.first a.args.last a.args.n c.before.wrapping-sub-u32.result c.wrapping-sub-u322.result
+    wrapped a.args.first a.args.last a.args.n c.before.wrapping_sub_u32.result c.wrapping_sub_u32-2.result
     a.ranges.first.fits a.ranges.n.fits a.ranges.last.fits (search rules) (search rules)
-    c.before.wrapping-sub-u32.ensures c.wrapping-sub-u322.ensures
+    c.before.wrapping_sub_u32.ensures c.wrapping_sub_u32-2.ensures
 
 pub is_between_spec : {M : Type 1} → statement M
 is_between_spec = tie.close (tie.spec (λ c κs. search rules) (λ c κs. search rules) returns)

@@ -5,7 +5,7 @@ use Rattle.morton.proofs.last_code.Statement.{statement}
 use Rattle.morton.proofs.last_code.Tie as tie
 
 returns : tie.Need-returns
-returns c = let a = c.before.args in record { is = λ from to ends. omega (arith, c.wrapping-add-u32.ensures, low_bits a.level from to) }
+returns c = let a = c.before.args in record { is = λ from to ends. omega (arith, c.wrapping_add_u32.ensures, low_bits a.level from to) }
 
 pub last_code_spec : {M : Type 1} → statement M
 last_code_spec = tie.close (tie.spec (λ c. search rules) (λ c. search rules) (λ c. search rules) (λ c κs. search rules) returns)

@@ -10,7 +10,7 @@ returns : tie.Need-returns
 returns c =
     let a = c.before.args in
     between_ascending (spread_bits 16) (spread_ascends 16) (gather_below 16 a.first) (gather_below 16 a.last) (gather_below 16 a.code)
-    (even_mask a.first) (even_mask a.last) (even_mask a.code) c.is-between.ensures
+    (even_mask a.first) (even_mask a.last) (even_mask a.code) c.is_between.ensures
 
 pub x_between_spec : {M : Type 1} → statement M
 x_between_spec = tie.close (tie.spec (λ c κs. search rules) returns)

@@ -5,10 +5,10 @@ use Rattle.measures.proofs.Bounds.{words_bounded}
 use Rattle.measures.proofs.sizes.store_end.Statement.{statement}
 use Rattle.measures.proofs.sizes.store_end.Tie as tie
 
-mul_result : tie.Need-overflow-mul-result
+mul_result : tie.Need-overflow_mul-result
 mul_result c = omega (arith, words_bounded c.before.requires)
 
-add_result : tie.Need-overflow-add-result
+add_result : tie.Need-overflow_add-result
 add_result c = omega (arith, words_bounded c.before.requires)
 
 returns : tie.Need-returns

@@ -10,10 +10,10 @@ use Rattle.measures.proofs.slots.offset.Tie as tie
 ends : (c : tie.Start) → c.args.slot * c.args.layout.width + c.args.layout.width ≤ c.args.layout.slots * c.args.layout.width
 ends c = slot_ends c.args.slot c.args.layout.slots c.args.layout.width c.requires.1
 
-mul_result : tie.Need-overflow-mul-result
+mul_result : tie.Need-overflow_mul-result
 mul_result c = omega (arith, ends c.before, words_bounded c.before.requires.0)
 
-add_result : tie.Need-overflow-add-result
+add_result : tie.Need-overflow_add-result
 add_result c = omega (arith, ends c.before, words_bounded c.before.requires.0)
 
 returns : tie.Need-returns
