@@ -35,8 +35,8 @@ invariant_loop store range above slot level code output₀ blocks found₀ teste
 abbrev decreases_loop : lts.decreases_loop
 decreases_loop store range above slot level code output₀ blocks found₀ tested₀ corners count part opened₀ i₀ output found tested opened i = count - i
 
-pub +list-block-spec : {M : Type 1} → statement M
-+list-block-spec = close μ_block λ t. lts.spec
+pub +list_block_spec : {M : Type 1} → statement M
++list_block_spec = close μ_block λ t. lts.spec
     (_, lies-inside.Learnt, _, list-inside-reads.Learnt, _, Open-next.Learnt, _, part_of.Learnt, _, wrapping_add.Learnt, _, element-at.Learnt, _, list-pixel.Learnt, _, meets.Learnt, _, reads.Post) _ reads.Post
     invariant_loop decreases_loop
     (λ c κs. search rules)

@@ -28,8 +28,8 @@ invariant_loop store layout above slot level code output₀ blocks found₀ coun
 abbrev decreases_loop : lts.decreases_loop
 decreases_loop store layout above slot level code output₀ blocks found₀ count part opened₀ i₀ output found opened i = count - i
 
-pub +list-inside-spec : {M : Type 1} → statement M
-+list-inside-spec = close μ_block λ t. lts.spec
+pub +list_inside_spec : {M : Type 1} → statement M
++list_inside_spec = close μ_block λ t. lts.spec
     (_, Open-next.Learnt, _, part_of.Learnt, _, element-at.Learnt, _, write-code.Learnt, _, reads.Post) _ reads.Post invariant_loop decreases_loop
     (λ c κs. search rules)
     (λ c. c.match.keys1)

@@ -46,8 +46,8 @@ elements_Inv codes levels k level code at end count₀ next₀ place₀ count ne
 abbrev elements_μ : read-quarter-lts.decreases_loop
 elements_μ codes levels k level code at end count₀ next₀ place₀ count next place = end - place
 
-pub +read-element-read-elements-read-quarter-spec : {M : Type 1} → statement M
-+read-element-read-elements-read-quarter-spec = close μ_read_element μ_read_elements μ_read_quarter
+pub +read_element_read_elements_read_quarter_spec : {M : Type 1} → statement M
++read_element_read_elements_read_quarter_spec = close μ_read_element μ_read_elements μ_read_quarter
     (λ t. read-element-lts.spec (_, read-elements.Post) _ read-element.Post
     (λ c. search rules)
     (λ c. search (rules, pixel_read))

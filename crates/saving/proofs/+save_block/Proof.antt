@@ -29,8 +29,8 @@ Inv_loop t store saving above slot level code output₀ at left₀ entries count
 abbrev decreases_loop : lts.decreases_loop
 decreases_loop store saving above slot level code output₀ at left₀ entries count part next₀ i₀ output left next i = count - i
 
-pub +save-block-spec : {M : Type 1} → statement M
-+save-block-spec = close μ_block λ t. lts.spec
+pub +save_block_spec : {M : Type 1} → statement M
++save_block_spec = close μ_block λ t. lts.spec
     (_, stop.Learnt, _, enter.Learnt, _, part_of.Learnt, _, put-entry.Learnt, _, element-at.Learnt, _, save-pixel.Learnt, _, reads.Post) _ reads.Post (Inv_loop t) decreases_loop
     (λ c κs. search rules)
     (λ c. save_spent c.stop.ensures c.before.before.if1.true)

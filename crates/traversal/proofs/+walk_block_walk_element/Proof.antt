@@ -37,8 +37,8 @@ Inv_loop t store limits claim seen count part quarters pass₀ seen-now₀ i₀ 
 abbrev decreases_loop : walk-block-lts.decreases_loop
 decreases_loop store limits claim seen count part quarters pass₀ seen-now₀ i₀ pass seen-now i = count - i
 
-pub +walk-block-walk-element-spec : {M : Type 1} → statement M
-+walk-block-walk-element-spec = close μ_walk_block μ_walk_element
+pub +walk_block_walk_element_spec : {M : Type 1} → statement M
++walk_block_walk_element_spec = close μ_walk_block μ_walk_element
     (λ t. walk-block-lts.spec (_, open_block.Learnt, _, slot-part.Learnt, _, first-pass.Learnt, _, element-at.Learnt, _, pass-element.Learnt, _, walk-element.Post, _, block-end.Learnt)
     _ walk_block.Post (Inv_loop t) decreases_loop
     (λ c κs. c.before.requires.1)

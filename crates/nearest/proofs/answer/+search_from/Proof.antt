@@ -18,8 +18,8 @@ abbrev μ_from : Measures 3 kinds.ps ℕ
 μ_from κs a = many_places + 1 - a.1.1.1.1.1.1.1.0
 
 -- `returned` is where the arrays that were lent are back, `searched` where the search has answered
-pub +search-from-spec : {M : Type 1} → statement M
-+search-from-spec = close μ_from λ t. lts.spec (_, many.Learnt, _, search-reads.Learnt, _, reads.Post, _, never-full-reads.Learnt) _ reads.Post
+pub +search_from_spec : {M : Type 1} → statement M
++search_from_spec = close μ_from λ t. lts.spec (_, many.Learnt, _, search-reads.Learnt, _, reads.Post, _, never-full-reads.Learnt) _ reads.Post
     (λ c κs. search rules)
     (λ c. search rules)
     (λ c. search rules)

@@ -22,8 +22,8 @@ abbrev elements_below : ℕ → In 1 elements-kinds.ps
 elements_below t =
     and 1 elements-kinds.ps (falls 1 elements-kinds.ps ◌<◌ μ_elements t) elements.Pre
 
-pub +elements-spec : {M : Type 1} → statement M
-+elements-spec = close μ_elements λ t. elements-lts.spec (
+pub +elements_spec : {M : Type 1} → statement M
++elements_spec = close μ_elements λ t. elements-lts.spec (
   is-marked-reads.Asked,
   is-marked-reads.Learnt,
   size-of-reads.Asked,

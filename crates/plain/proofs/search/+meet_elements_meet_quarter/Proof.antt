@@ -21,8 +21,8 @@ abbrev μ_meet_elements : Measures 2 meet-elements-kinds.ps ℕ
 abbrev μ_meet_quarter : Measures 2 meet-quarter-kinds.ps ℕ
 μ_meet_quarter κs a = 2 * a.1.1.0 + 1
 
-pub +meet-elements-meet-quarter-spec : {M : Type 1} → statement M
-+meet-elements-meet-quarter-spec = close μ_meet_elements μ_meet_quarter
+pub +meet_elements_meet_quarter_spec : {M : Type 1} → statement M
++meet_elements_meet_quarter_spec = close μ_meet_elements μ_meet_quarter
     (λ t. meet-elements-lts.spec
     (_, is-marked-reads.Learnt, _, place-of-reads.Learnt, _, size-of-reads.Learnt, _, meet-quarter.Post)
     _ meet-elements.Post

@@ -31,8 +31,8 @@ invariant_loop store range above slot level code blocks found₀ tested₀ corne
 abbrev decreases_loop : lts.decreases_loop
 decreases_loop store range above slot level code blocks found₀ tested₀ corners count part opened₀ i₀ found tested opened i = count - i
 
-pub +count-block-spec : {M : Type 1} → statement M
-+count-block-spec = close μ_block λ t. lts.spec
+pub +count_block_spec : {M : Type 1} → statement M
++count_block_spec = close μ_block λ t. lts.spec
     (_, Open-next.Learnt, _, part_of.Learnt, _, wrapping_add.Learnt, _, element-at.Learnt, _, count-pixel.Learnt, _, lies.Learnt, _, take-number.Learnt, _, reads.Post) _ reads.Post
     invariant_loop decreases_loop
     (λ c κs. search rules)
