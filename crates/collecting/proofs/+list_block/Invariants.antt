@@ -1,5 +1,4 @@
 -- The level of the block around falls.
-use Rattle.std.proofs.Common.{◌-◌}
 use Rattle.walks.proofs.Walks.{InLoop}
 use Rattle.collecting.proofs.BlockLists.{ListsElements}
 use Rattle.collecting.proofs.+list_block.Given as goal

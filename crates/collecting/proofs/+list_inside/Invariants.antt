@@ -1,5 +1,4 @@
 -- The level of the block around falls.
-use Rattle.std.proofs.Common.{◌-◌}
 use Rattle.measures.specs.Sizes.{largest_most}
 use Rattle.walks.proofs.Walks.{InLoop}
 use Rattle.collecting.specs.Listing.{of_all, Lists}
