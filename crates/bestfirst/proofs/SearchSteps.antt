@@ -82,7 +82,7 @@ module _ {words set : List ℕ} (holds : Holds words set) (layout : Layout) (pla
             let d : best.distance ≡ squared_distance P p = ap (λ (b : Best). b.distance) (by_found (some p) g) in
             let far : is_farther P (some p) block ≡ true = lt-ltb (squared_distance P p) (distance_to P block) (omega (arith, l, d, distance_told a.is)) in
             let c : all_farther P (some p) (a.head ∷ a.rest) ≡ true = farther_next P (some p) a.head a.rest ∙ far in
-            let c' : all_farther P (found P here) (a.head ∷ a.rest) ≡ true = rw g c in
+            let c' : all_farther P (found P here) (a.head ∷ a.rest) ≡ true = subst (λ (o : Option ℕ). all_farther P o (a.head ∷ a.rest) ≡ true) (sym g) c in
             stated_values n P here (some p) g (by_found (some p) g) a.opened_is (limit_complete P p (a.head ∷ a.rest) c ∙ sym d) c
             ∙ ap (λ (s : Search). values (nearest_by P s)) (sym (pruned_complete P a.left here c')) ∙ ap values a.answers
 

@@ -20,11 +20,11 @@ use Rattle.packing.specs.Build.{empty_build, AppendDue, AppendDone}
 use Rattle.building.specs.Finish.{Appended}
 use Rattle.building.proofs.Appended.{appended_itself, none_appended, append_due, one_appended}
 use Rattle.building.proofs.Filled.{fill_at}
-use Rattle.image.specs.Parts.{four_at, entry_at, entriesAt}
+use Rattle.image.specs.Parts.{four_at, entry_at, entries_at}
 use Rattle.loading.specs.Filled.{pixels_to, pixels_from, pixels_given, EntryDue, EntriesAt, ReplaceDue}
 
-entries_join : (codes levels : List ℕ) (more n at : ℕ) → entriesAt codes levels (more + n) at ≡ entriesAt codes levels n at ++ entriesAt codes levels more (at + n)
-unfolding entriesAt
+entries_join : (codes levels : List ℕ) (more n at : ℕ) → entries_at codes levels (more + n) at ≡ entries_at codes levels n at ++ entries_at codes levels more (at + n)
+unfolding entries_at
 entries_join codes levels more zero at =
     let e : more + 0 ≡ more = omega arith in
     let f : at + 0 ≡ at = omega arith in
@@ -37,14 +37,14 @@ entries_join codes levels more (suc n) at =
 module _ (codes levels : List ℕ) (at : ℕ) where
   -- the pixels among the entries up to this one, and among those from it on
   to_next : pixels_to codes levels (at + 1) ≡ pixels_to codes levels at ++ pixel_entries (entry_at codes levels at ∷ [])
-  unfolding entriesAt
+  unfolding entries_at
   to_next =
       let e : at + 1 ≡ 1 + at = omega arith in
       let f : 0 + at ≡ at = omega arith in
-      ap (pixels_to codes levels) e ∙ ap pixel_entries (entries_join codes levels 1 at 0) ∙ rw f (pixel_entries_join (entriesAt codes levels at 0) (entry_at codes levels at ∷ []))
+      ap (pixels_to codes levels) e ∙ ap pixel_entries (entries_join codes levels 1 at 0) ∙ rw f (pixel_entries_join (entries_at codes levels at 0) (entry_at codes levels at ∷ []))
 
-  from_this : at < length levels → pixels_from codes levels at ≡ pixel_entries (entry_at codes levels at ∷ entriesAt codes levels (length levels - (at + 1)) (at + 1))
-  unfolding entriesAt
+  from_this : at < length levels → pixels_from codes levels at ≡ pixel_entries (entry_at codes levels at ∷ entries_at codes levels (length levels - (at + 1)) (at + 1))
+  unfolding entries_at
   from_this below =
       let n : length levels - at ≡ suc (length levels - (at + 1)) = omega arith in
       let s : suc at ≡ at + 1 = omega arith in
@@ -83,7 +83,7 @@ module _ {sizes : Sizes} {layout : Layout} {words stack codes levels : List ℕ}
 -- all of them
 pub none_passed : {sizes : Sizes} {layout : Layout} {words stack codes levels : List ℕ} {build : Build} → build ≡ empty_build → EntriesAt sizes layout words stack codes levels
     → Appended sizes layout words words stack build (pixels_to codes levels 0) (pixels_from codes levels 0)
-unfolding entriesAt
+unfolding entries_at
 none_passed {levels = levels} e due = let n : length levels - 0 ≡ length levels = omega arith in rw n (none_appended e due.begun)
 
 pub entry_due : {sizes : Sizes} {layout : Layout} {words₀ stack₀ words stack codes levels : List ℕ} {build : Build} (at : ℕ) → EntriesAt sizes layout words₀ stack₀ codes levels
@@ -92,7 +92,7 @@ entry_due at due below a = record { building = a.building; codes_long = due.code
 
 pub all_passed : {sizes : Sizes} {layout : Layout} {words₀ words stack : List ℕ} {build : Build} (codes levels : List ℕ) (at : ℕ) → at ≤ length levels → length levels ≤ at
     → Appended sizes layout words₀ words stack build (pixels_to codes levels at) (pixels_from codes levels at) → Appended sizes layout words₀ words stack build (pixels_given codes levels) []
-unfolding entriesAt
+unfolding entries_at
 all_passed codes levels at to from a =
     let n : length levels - at ≡ 0 = omega arith in
     let e : at ≡ length levels = omega arith in

@@ -125,7 +125,7 @@ module _ (words : List ℕ) where
             usable = usable;
             reads = rw level at read;
             is_tree = labelled_tree panel 0 es valid.k_from right;
-            fits = omega (arith, pixels_seen, w.within.pixels_to_lem);
+            fits = omega (arith, pixels_seen, w.within.pixels_to);
             free = ends.free;
             chain = ends.is.chain;
             shared = shared;

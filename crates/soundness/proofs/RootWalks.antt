@@ -50,7 +50,7 @@ can_start usable said laid =
       slot_below = laid.within.slots_from;
       level_from = valid.panel.order_from;
       level_to = valid.panel.order_to;
-      within = record { blocks_to = omega arith; pixels_to_lem = omega arith };
+      within = record { blocks_to = omega arith; pixels_to = omega arith };
     }
 
 -- what is learnt of the code's sizes and layout is learnt of the words' own
@@ -97,6 +97,6 @@ sound_root words placed sound =
       };
       room = record {
         blocks_to = omega (arith, v.few);
-        pixels_to_lem = omega (arith, ap length v.same_pixels, ap length (append-nil (pixels es)), sound.fits);
+        pixels_to = omega (arith, ap length v.same_pixels, ap length (append-nil (pixels es)), sound.fits);
       };
     }

@@ -124,19 +124,19 @@ module _ (k width : ℕ) (words : List ℕ) where
   pub tree_numbered : {slots lo hi : ℕ} {set : List ℕ} (n : ℕ) (t : Placed) → Numbered width slots words set → OwnPixels set lo hi t → Arranged k n lo hi t → Stands width words t
       → Every (λ s. s < slots) (slots_of t) → TreeNumbers width words t
   tree_numbered n empty numbered h ar st ins = tt
-  tree_numbered n (pixel c t) numbered h ar st ins = tree_numbered n t numbered (own_after_pixel k n h ar) ar.1 st ins
-  tree_numbered n (block_at s i c fs t) numbered h ar st ins = (
+  tree_numbered {lo = lo} {hi = hi} n (pixel c t) numbered h ar st ins = tree_numbered {lo = suc c} {hi = hi} n t numbered (own_after_pixel k n h ar) ar.1 st ins
+  tree_numbered {lo = lo} {hi = hi} n (block_at s i c fs t) numbered h ar st ins = (
     block_number k st.1 (own_inside k n h ar) refl ar.6 ar.2 (numbered.each s ins.0),
-    tree_numbered i fs numbered (own_inside k n h ar) ar.6 st.2 (every_left _ (slots_of fs) (slots_of t) ins.1),
-    tree_numbered n t numbered (own_after_block k n h ar) ar.7 st.3 (every_right _ (slots_of fs) (slots_of t) ins.1),
+    tree_numbered {lo = c} {hi = c + 4 ^ i} i fs numbered (own_inside k n h ar) ar.6 st.2 (every_left _ (slots_of fs) (slots_of t) ins.1),
+    tree_numbered {lo = c + 4 ^ i} {hi = hi} n t numbered (own_after_block k n h ar) ar.7 st.3 (every_right _ (slots_of fs) (slots_of t) ins.1),
   )
 
   pub tree_right : {lo hi : ℕ} {set : List ℕ} (n : ℕ) (t : Placed) → OwnPixels set lo hi t → Arranged k n lo hi t → Stands width words t → TreeNumbers width words t
       → Every (λ s. NumberRight set (slot_part width words s)) (slots_of t)
   tree_right n empty h ar st numbers = tt
-  tree_right n (pixel c t) h ar st numbers = tree_right n t (own_after_pixel k n h ar) ar.1 st numbers
-  tree_right n (block_at s i c fs t) h ar st numbers = (
+  tree_right {lo = lo} {hi = hi} n (pixel c t) h ar st numbers = tree_right {lo = suc c} {hi = hi} n t (own_after_pixel k n h ar) ar.1 st numbers
+  tree_right {lo = lo} {hi = hi} n (block_at s i c fs t) h ar st numbers = (
     block_right k st.1 (own_inside k n h ar) refl ar.6 numbers.0,
-    every_join _ (slots_of fs) (slots_of t) (tree_right i fs (own_inside k n h ar) ar.6 st.2 numbers.1)
-        (tree_right n t (own_after_block k n h ar) ar.7 st.3 numbers.2),
+    every_join _ (slots_of fs) (slots_of t) (tree_right {lo = c} {hi = c + 4 ^ i} i fs (own_inside k n h ar) ar.6 st.2 numbers.1)
+        (tree_right {lo = c + 4 ^ i} {hi = hi} n t (own_after_block k n h ar) ar.7 st.3 numbers.2),
   )

@@ -58,7 +58,7 @@ module _ {limits : Limits} {words : List ℕ} {claim : Claim} {seen : Seen} wher
           part_is = part_is;
           at = omega arith;
           met_few = rw begins (omega (arith, can.can.k_from));
-          within = record { blocks_to = omega (arith, opened.room); pixels_to_lem = can.within.pixels_to_lem };
+          within = record { blocks_to = omega (arith, opened.room); pixels_to = can.within.pixels_to };
           walked = rw begins walked_none;
         }
 

@@ -25,7 +25,7 @@ module _ {limits : Limits} {words : List ℕ} {element : Element} {level : ℕ} 
     where
       go : (r : Walked) → PixelMeets limits seen r → WalkElementMeets limits words (Pixel c) seen r
       go (Whole now) p = record { found = pixel c empty; names = refl; at = right_pixel c; now_is = rw (p.0, add-zero); within = p.1 }
-      go Unsound p = record { none = λ t n right room. let z : t ≡ pixel c empty = n in omega (arith, (rw z at room).pixels_to_lem) }
+      go Unsound p = record { none = λ t n right room. let z : t ≡ pixel c empty = n in omega (arith, (rw z at room).pixels_to) }
 
   module _ {s i c : ℕ} (e : element ≡ Block s i c) where
     lower : i < level

@@ -34,5 +34,5 @@ pub within_first : {A : Type 0} {limits : Limits} (seen : Seen) (f g : ForestOf 
 within_first seen f g h =
     record {
       blocks_to = omega (arith, h.blocks_to, block_count_join f g);
-      pixels_to_lem = omega (arith, h.pixels_to_lem, ap length (pixels_join f g), length-append (pixels f) (pixels g));
+      pixels_to = omega (arith, h.pixels_to, ap length (pixels_join f g), length-append (pixels f) (pixels g));
     }

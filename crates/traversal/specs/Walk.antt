@@ -32,7 +32,7 @@ pub record CanLook (limits : Limits) (words : List ℕ) : Type 0 where
 
 pub record WithinLimits (limits : Limits) (seen : Seen) : Type 0 where
   pub blocks_to : seen.blocks ≤ limits.layout.slots
-  pub pixels_to_lem : seen.pixels ≤ limits.most
+  pub pixels_to : seen.pixels ≤ limits.most
 
 -- the numbers with those of these elements
 abbrev pub seen_with : {A : Type 0} → Seen → ForestOf A → Seen

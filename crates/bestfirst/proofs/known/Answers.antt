@@ -1,0 +1,7 @@
+use borrow.Author.Rules.{rules}
+use mathlib.Core.Path.{refl}
+use Rattle.bestfirst.proofs.Stating.{stated}
+use Rattle.bestfirst.proofs.known.Goals as goal
+
+pub returns : goal.returns
+returns c = stated refl c.distance_shown.ensures

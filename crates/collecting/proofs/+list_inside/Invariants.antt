@@ -1,0 +1,13 @@
+-- The level of the block around falls.
+use Rattle.measures.specs.Sizes.{largest_most}
+use Rattle.walks.proofs.Walks.{InLoop}
+use Rattle.collecting.specs.Listing.{of_all, Lists}
+use Rattle.collecting.proofs.+list_inside.Given as goal
+
+abbrev pub decreases-list_inside : goal.decreases-list_inside
+decreases-list_inside l = l.above
+
+abbrev pub invariant-loop-i : goal.invariant-loop-i
+invariant-loop-i l =
+    InLoop (Lists of_all largest_most l.layout.slots) l.layout l.store l.above l.slot l.level l.code l.count l.part l.i (l.initial.out, l.initial.found, l.initial.opened, 0)
+    (l.out, l.found, l.opened, 0)

@@ -1,0 +1,21 @@
+-- `reader::is_image_of_some` meets its contract: bytes that pass each test are laid out as an image, and an image passes each. Assumes nothing.
+use native.Mathlib.Omega.{arith}
+use borrow.Author.Rules.{rules}
+use Rattle.image.proofs.ImageBytes.{Bytes}
+use Rattle.reader.proofs.RootRead.{as_long, no_root, root_can, root_wrong, entries_unread, pixels_decide}
+use Rattle.reader.proofs.is_image_of_some.Goals as goal
+
+pub returns-then-not-is_entry : goal.returns-then-not-is_entry
+returns-then-not-is_entry c = search (rules, no_root)
+
+pub read_elements-requires : goal.read_elements-requires
+read_elements-requires c = search (rules, root_can)
+
+pub returns-in_default : goal.returns-in_default
+returns-in_default c = search (rules, root_wrong)
+
+pub returns-then-next-levels : goal.returns-then-next-levels
+returns-then-next-levels c = search (rules, entries_unread)
+
+pub returns : goal.returns
+returns c = let bytes : Bytes c.args.image.now = λ i. omega (arith, c.type_inv.image i) in search (rules, pixels_decide, bytes)

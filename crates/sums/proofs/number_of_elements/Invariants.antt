@@ -1,0 +1,15 @@
+use Prim.Native.Nat.{◌+◌, ◌-◌, ◌*◌, ◌≤◌}
+use native.Mathlib.Omega.{arith}
+use mathlib.Core.Path.{◌≡◌}
+use lib.ListN.{drop}
+use borrow.Author.Rules.{rules}
+use Rattle.measures.specs.Sizes.{largest_most}
+use Rattle.sums.specs.Sum.{number_of_elements}
+use Rattle.sums.proofs.ElementNumbers.{number_start, number_turn}
+use Rattle.sums.proofs.number_of_elements.Given as goal
+
+abbrev pub invariant-loop-i : goal.invariant-loop-i
+invariant-loop-i l = (l.i ≤ l.count) × (l.sum ≤ l.i * largest_most) × (l.sum + number_of_elements l.layout l.store (l.count - l.i) (drop (2 * l.i) l.elements) ≡ number_of_elements l.layout l.store l.count l.elements)
+
+abbrev pub decreases-loop-i : goal.decreases-loop-i
+decreases-loop-i l = l.count - l.i
