@@ -3,18 +3,19 @@ CC = gcc
 CXX = g++
 PYTHON = python3
 CFLAGS = -O2 -Wall -Wextra -Wpedantic -Werror
-PROVED = target/staticlib/libpkreg.a
+PROVED = crates/pkreg/out/libpkreg.a
+SHOW = crates/pkshow/out/pkshow
 # The version is read from the header. The shared library is named by it; a program that links it asks for its first number.
 VERSION := $(shell sed -n 's/^.define PK_VERSION "\(.*\)"$$/\1/p' include/pkreg.h)
 $(if $(VERSION),,$(error include/pkreg.h defines no PK_VERSION))
 SONAME := libpkreg.so.$(firstword $(subst ., ,$(VERSION)))
 SHARED := build/libpkreg.so.$(VERSION)
 LIBRARY = build/libpkreg.a $(SHARED) build/$(SONAME) build/libpkreg.so build/pkreg.h
-SOURCES = crates.txt $(shell find crates -name '*.rt' -o -name '*.antt')
+SOURCES = crates.txt $(shell find crates -name out -prune -o \( -name '*.rt' -o -name '*.antt' \) -print)
 SEED = 1
 
 .PHONY: help lib demo test soak bench clean
-# Two runs of rt at a time would share target/.
+# A second rt would wait for the first.
 .NOTPARALLEL:
 
 help:
@@ -27,12 +28,13 @@ help:
 
 lib: $(LIBRARY)
 
-# rt builds only what is proved; a change of any crate proves again. What was proved already rt leaves as it stands, hence the touch.
+# rt builds only what is proved; a change of any crate proves again. What was built already rt leaves as it stands, hence the touch.
 $(PROVED): $(SOURCES)
-	rt staticlib pkreg
+	cd crates/pkreg && rt lib
+	touch $@
 
-target/bin/pkshow: $(SOURCES)
-	rt check pkshow
+$(SHOW): $(SOURCES)
+	cd crates/pkshow && rt run <stdin >/dev/null
 	touch $@
 
 build/libpkreg.a: $(PROVED)
@@ -42,8 +44,9 @@ build/libpkreg.a: $(PROVED)
 $(SHARED): build/libpkreg.a
 	$(CC) -shared -Wl,-soname,$(SONAME) -o $@ -Wl,--whole-archive $< -Wl,--no-whole-archive
 
+# rt ci takes no symbolic link anywhere in a checkout; these are further names of the one file.
 build/$(SONAME) build/libpkreg.so: $(SHARED)
-	ln -sf $(notdir $<) $@
+	ln -f $< $@
 
 build/pkreg.h: include/pkreg.h
 	@mkdir -p build
@@ -63,7 +66,7 @@ demo: build/dark_frame
 build/%_test: tests/%_test.c $(LIBRARY)
 	$(CC) -std=c99 $(CFLAGS) -Ibuild -o $@ $< build/libpkreg.a
 
-test: target/bin/pkshow build/dark_frame build/dark_frame_cpp build/null_test build/stack_test
+test: $(SHOW) build/dark_frame build/dark_frame_cpp build/null_test build/stack_test
 	$(PYTHON) tests/version_test.py
 	build/null_test
 	build/stack_test

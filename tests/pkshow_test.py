@@ -14,8 +14,8 @@ import choices
 from model import Model, entries_of, image_of, interleave, judge_image, within
 
 ROOT = os.path.normpath(os.path.join(os.path.dirname(os.path.abspath(__file__)), ".."))
-BUILT = os.path.join(ROOT, "target", "bin", "pkshow")
 CRATE = os.path.join(ROOT, "crates", "pkshow")
+BUILT = os.path.join(CRATE, "out", "pkshow")
 MOST, LONGEST = 400, 4010
 EMPTY = bytes.fromhex("03 03 01000000 00000000 00000000 03")
 
@@ -153,10 +153,10 @@ def run(program, rolls):
 
 def main():
     parser = argparse.ArgumentParser(description=__doc__, formatter_class=argparse.RawDescriptionHelpFormatter)
-    parser.add_argument("--program", default=BUILT, help="the program to run; rt check pkshow builds it")
+    parser.add_argument("--program", default=BUILT, help="the program to run; rt run in crates/pkshow builds it")
     program = parser.parse_args().program
     if not os.access(program, os.X_OK):
-        print(f"pkshow: there is no program {program}: build it by rt check pkshow")
+        print(f"pkshow: there is no program {program}: build it by rt run in crates/pkshow")
         return 1
     return run(program, random.Random(1))
 

@@ -1,4 +1,4 @@
-"""The version: the header, the shared library's file, its soname and the links to it, what a program asks for, Python, and the names of the
+"""The version: the header, the shared library's file, its soname and its other names, what a program asks for, Python, and the names of the
 library in the README and the manual agree."""
 
 import os
@@ -36,8 +36,9 @@ def cases():
     yield "pkreg.__version__", pkreg.__version__, version
     pkmask = subprocess.run([sys.executable, os.path.join(ROOT, "python", "pkmask.py"), "--version"], capture_output=True, text=True)
     yield "pkmask --version", pkmask.stdout, f"pkmask {version}\n"
-    for link in "libpkreg.so", soname:
-        yield f"what build/{link} leads to", os.path.basename(os.path.realpath(os.path.join(BUILD, link))), f"libpkreg.so.{version}"
+    for name in "libpkreg.so", soname:
+        file = os.path.join(BUILD, f"libpkreg.so.{version}")
+        yield f"whether build/{name} is that file", os.path.samefile(os.path.join(BUILD, name), file), True
     yield "the soname of the shared library", dynamic("libpkreg.so", "SONAME"), [soname]
     yield "what build/dark_frame_cpp asks for", soname in dynamic("dark_frame_cpp", "NEEDED"), True
     for document in "README.md", os.path.join("docs", "MANUAL.md"):

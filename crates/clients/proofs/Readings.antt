@@ -121,7 +121,9 @@ element_asked m = record { exactly = λ set holds on. ask_element holds m on }
 asked_at : {a : Answer} {x y : ℕ} (code level block : ℕ) → code_of x y ≡ code → HasPixel (panel_of (asked 3 3 9)) x y → Smallest (panel_of (asked 3 3 9)) (member first_set) code level block
     → PanelAsked x y a → a ≡ told code level block
 unfolding told
-asked_at code level block e on s p = rw e at (p.says level block on (rw e s))
+asked_at {a} {x} {y} code level block e on s p =
+    subst (λ (c : ℕ). a ≡ told c level block) e
+    (p.says level block on (subst (λ (c : ℕ). Smallest (panel_of (asked 3 3 9)) (member first_set) c level block) (sym e) s))
 
 pub ask_marked : {a : Answer} → PanelAsked 0 0 a → a ≡ located true 2 1 0
 ask_marked p = asked_at 0 1 0 code_0 (omega arith, omega arith) first_located.at_0 p ∙ marked_0

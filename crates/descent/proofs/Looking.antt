@@ -8,7 +8,7 @@ use mathlib.Core.List.{List}
 use lib.ListN.{get_or}
 use Rattle.morton.specs.CommonLevel.{CommonLevel}
 use Rattle.morton.proofs.Blocks.{block_up}
-use Rattle.pktree.specs.Elements.{empty, pixel, block, ◌⧺◌, size, block_at}
+use Rattle.pktree.specs.Elements.{empty, pixel, ◌⧺◌, size, block_at}
 use Rattle.pktree.proofs.Alignment.{pow_pos}
 use Rattle.pktree.proofs.Windows.{within_multiple}
 use Rattle.pktree.proofs.Arranged.{Arranged, arranged_upper, arranged_join}

@@ -3,7 +3,6 @@ use Prim.Native.Nat.{ℕ}
 use mathlib.Core.Path.{◌≡◌, refl, ap₂, subst, ◌∙◌}
 use mathlib.Core.List.{List, [], ◌∷◌, ◌++◌}
 use lib.ListN.{take, drop}
-use denote.Ref.{Bor}
 use Rattle.answers.specs.declared.Outcome.{Outcome}
 use Rattle.answers.specs.declared.Asking.{Asking}
 use Rattle.answers.specs.declared.Searching.{Searching}
@@ -17,42 +16,37 @@ use Rattle.promises.specs.Survivors.{Call, mark, clear, ask, nearest, count, lis
 use Rattle.history.specs.Run as steps
 use Rattle.history.specs.Run.{Step, SaveRun, Run, done, then}
 
--- any reference to these words: `Learnt` speaks of the words alone
-abbrev pub lent : List ℕ → Bor (List ℕ)
-lent words = record { ref_ptr = (0, 0); now = words }
-
 module _ (before after : List ℕ) (x y : ℕ) where
   pub mark_step : (r : Outcome) → MarkMeets before after x y (answer r) → Step (mark x y) before after
-  mark_step r m = steps.by_mark ([], tt) (lent before) x y r after m
+  mark_step r m = steps.by_mark before x y r after m
 
   pub clear_step : (r : Outcome) → ClearMeets before after x y (answer r) → Step (clear x y) before after
-  clear_step r m = steps.by_clear ([], tt) (lent before) x y r after m
+  clear_step r m = steps.by_clear before x y r after m
 
 pub ask_step : (words : List ℕ) (x y : ℕ) (r : Asking) → AskMeets words x y (ask_answer r) → Step (ask x y) words words
-ask_step words x y r m = steps.by_ask ([], tt) (lent words) x y r m
+ask_step words x y r m = steps.by_ask words x y r m
 
 pub nearest_step : (words : List ℕ) (x y budget : ℕ) (r : Searching) → NearestMeets words x y budget (search_answer r) → Step (nearest x y budget) words words
-nearest_step words x y budget r m = steps.by_nearest ([], tt) (lent words) x y budget r m
+nearest_step words x y budget r m = steps.by_nearest words x y budget r m
 
 module _ (words : List ℕ) (x0 y0 x1 y1 : ℕ) where
   pub count_step : (r : Counting) → CountMeets words x0 y0 x1 y1 (count_answer r) → Step (count x0 y0 x1 y1) words words
-  count_step r m = steps.by_count ([], tt) (lent words) x0 y0 x1 y1 r m
+  count_step r m = steps.by_count words x0 y0 x1 y1 r m
 
   pub list_step : (output written : List ℕ) (r : Listing) → ListMeets words x0 y0 x1 y1 output written (list_answer r) → Step (list x0 y0 x1 y1 output) words words
-  list_step output written r m = steps.by_list ([], ([], tt)) (lent words) (lent output) x0 y0 x1 y1 r written m
+  list_step output written r m = steps.by_list words output x0 y0 x1 y1 r written m
 
 pub save_step : (words output written : List ℕ) (r : Saving) → SaveMeets words output written (save_answer r) → Step (save output) words words
-save_step words output written r m =
-    steps.Step.by_save words output r written (steps.SaveRun.by_save ([], ([], tt)) (lent words) (lent output) refl refl m)
+save_step words output written r m = steps.Step.by_save words output r written (steps.SaveRun.by_save m)
 
 pub load_step : (before after bytes : List ℕ) (r : Outcome) → LoadMeets before after bytes (answer r) → Step (load bytes) before after
-load_step before after bytes r m = steps.by_load ([], ([], tt)) (lent before) (lent bytes) r after m
+load_step before after bytes r m = steps.by_load before bytes r after m
 
 pub fill_step : (before after codes : List ℕ) (r : Outcome) → FillMeets before after codes (answer r) → Step (fill codes) before after
-fill_step before after codes r m = steps.by_fill ([], ([], tt)) (lent before) (lent codes) r after m
+fill_step before after codes r m = steps.by_fill before codes r after m
 
 pub check_step : (words : List ℕ) (r : Checking) → CheckMeets words (check_answer r) → Step check words words
-check_step words r m = steps.by_check ([], tt) (lent words) r m
+check_step words r m = steps.by_check words r m
 
 -- the bytes or codes of a call, by what the part of the row beside the script was asked for
 module _ (row before after part : List ℕ) (from number a b : ℕ) (is : part ≡ take number (drop from row)) (from_is : from ≡ a) (number_is : number ≡ b) (r : Outcome) where

@@ -15,7 +15,7 @@ run_keeps sizes set (then {call} step run) h = run_keeps sizes (next sizes set c
 
 -- an accepted make leaves the empty register
 fresh_is_empty : (sizes : Sizes) {words : List ℕ} → Fresh sizes words → InStep sizes [] words
-fresh_is_empty sizes (by_make κs s r after m e) = let d = accepted_makes m e in record { holds = d.holds; sized = d.sizes_are }
+fresh_is_empty sizes (by_make before r after m e) = let d = accepted_makes m e in record { holds = d.holds; sized = d.sizes_are }
 
 pub history_keeps : (sizes : Sizes) (calls : List Call) (words : List ℕ) → History sizes calls words → InStep sizes (survivors sizes calls) words
 history_keeps sizes calls words h = run_keeps sizes [] h.run (fresh_is_empty sizes h.made)

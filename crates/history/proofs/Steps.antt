@@ -19,13 +19,13 @@ to_sizes {sizes} {set} {before} {after} call h g = subst (λ (z : Sizes). InStep
 
 pub step_keeps : (sizes : Sizes) (set : List ℕ) {call : Call} {before after : List ℕ} → Step call before after → InStep sizes set before
     → InStep sizes (next sizes set call) after
-step_keeps sizes set (by_mark κs s x y r after m) h = to_sizes (mark x y) h (mark_next s.now after x y (answer r) set (at_own_sizes h) m)
-step_keeps sizes set (by_clear κs s x y r after m) h = to_sizes (clear x y) h (clear_next s.now after x y (answer r) set (at_own_sizes h) m)
-step_keeps sizes set (by_ask κs s x y r m) h = h
-step_keeps sizes set (by_nearest κs s x y budget r m) h = h
-step_keeps sizes set (by_count κs s x0 y0 x1 y1 r m) h = h
-step_keeps sizes set (by_list κs s o x0 y0 x1 y1 r written m) h = h
+step_keeps sizes set (by_mark before x y r after m) h = to_sizes (mark x y) h (mark_next before after x y (answer r) set (at_own_sizes h) m)
+step_keeps sizes set (by_clear before x y r after m) h = to_sizes (clear x y) h (clear_next before after x y (answer r) set (at_own_sizes h) m)
+step_keeps sizes set (by_ask words x y r m) h = h
+step_keeps sizes set (by_nearest words x y budget r m) h = h
+step_keeps sizes set (by_count words x0 y0 x1 y1 r m) h = h
+step_keeps sizes set (by_list words output x0 y0 x1 y1 r written m) h = h
 step_keeps sizes set (by_save words output r written m) h = h
-step_keeps sizes set (by_load κs s i r after m) h = to_sizes (load i.now) h (load_next s.now after i.now (answer r) set (at_own_sizes h) m)
-step_keeps sizes set (by_fill κs s c r after m) h = to_sizes (fill c.now) h (fill_next s.now after c.now (answer r) set (at_own_sizes h) m)
-step_keeps sizes set (by_check κs s r m) h = h
+step_keeps sizes set (by_load before image r after m) h = to_sizes (load image) h (load_next before after image (answer r) set (at_own_sizes h) m)
+step_keeps sizes set (by_fill before codes r after m) h = to_sizes (fill codes) h (fill_next before after codes (answer r) set (at_own_sizes h) m)
+step_keeps sizes set (by_check words r m) h = h

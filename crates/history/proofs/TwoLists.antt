@@ -28,7 +28,6 @@ use Rattle.promises.proofs.Ladder.{where_holds, accepted_passed}
 use Rattle.promises.specs.Survivors.{Call, survivors}
 use Rattle.history.specs.Run.{SaveRun, by_save, History}
 use Rattle.history.specs.Claim.{full_image, HoldsSurvivors, EveryTwoLists}
-use Rattle.history.proofs.CallSteps.{lent}
 use Rattle.history.proofs.FullSave.{full_save}
 use Rattle.promises.proofs.Keeping.{InStep}
 use Rattle.history.proofs.Runs.{history_keeps}
@@ -65,20 +64,19 @@ module _ (sizes : Sizes) (set words : List ℕ) (h : InStep sizes set words) whe
 
   saved_accepted : (output : List ℕ) (r : Saving) (written : List ℕ) → SaveRun words output r written → length (image (panel_of sizes) set) ≤ length output
       → (save_answer r).refusal ≡ 0
-  saved_accepted output r written (by_save κs s o e f m) l =
-      long_enough_accepted output r written (subst₂ (λ (w b : List ℕ). SaveMeets w b written (save_answer r)) e f m)
+  saved_accepted output r written (by_save m) l =
+      long_enough_accepted output r written m
       (subst (λ (b : List ℕ). length b ≤ length output) (sym image_is) l)
 
   saved_is : (output : List ℕ) (r : Saving) (written : List ℕ) → SaveRun words output r written → (save_answer r).refusal ≡ 0
       → full_image r written ≡ image (panel_of sizes) set
-  saved_is output r written (by_save κs s o e f m) a =
-      accepted_writes output r written (subst₂ (λ (w b : List ℕ). SaveMeets w b written (save_answer r)) e f m) a ∙ image_is
+  saved_is output r written (by_save m) a = accepted_writes output r written m a ∙ image_is
 
   save_there : (output : List ℕ) → length (image (panel_of sizes) set) ≤ length output
       → SaveRun words output (Saved (length (image (panel_of sizes) set))) (image (panel_of sizes) set ++ drop (length (image (panel_of sizes) set)) output)
   save_there output =
       subst (λ (b : List ℕ). length b ≤ length output → SaveRun words output (Saved (length b)) (b ++ drop (length b) output)) image_is
-      (λ room. by_save ([], ([], tt)) (lent words) (lent output) refl refl (full_save h.holds output room))
+      (λ room. by_save (full_save h.holds output room))
 
   block_sizes_held : (level code : ℕ) (elements : Forest) → Memᴰ (block_of level code elements) (blocks (tree (panel_of sizes) (member set)))
       → (size elements ≤ 4 * (sizes.k - 1)) × ((level ≡ sizes.order → ⊥) → sizes.k ≤ size elements)

@@ -14,13 +14,12 @@ use Rattle.promises.specs.Survivors.{Call, survivors}
 use Rattle.history.specs.Run.{by_make, Run, History}
 use Rattle.history.specs.Script.{calls_to, calls_of}
 use Rattle.history.specs.Whole.{RunMeets, sample_calls, SampleRan}
-use Rattle.history.proofs.CallSteps.{lent}
 
 module _ (before made : List ℕ) (m k n : ℕ) (outcome : Outcome) (meets : MakeMeets before made m k n (answer outcome)) (script images codes : List ℕ) (r : ℕ) (is : r ≡ (answer outcome).refusal) where
   pub ran : (after : List ℕ) → r ≡ 0 → Run (calls_of images codes script) made after → RunMeets before after m k n script images codes r
   ran after zero run = record {
     made = (λ e. (make_refusals meets).made.0 (sym is ∙ e), λ h. is ∙ (make_refusals meets).made.1 h);
-    history = λ e. record { start = made; made = by_make ([], tt) (lent before) outcome made meets (sym is ∙ e); run = run };
+    history = λ e. record { start = made; made = by_make before outcome made meets (sym is ∙ e); run = run };
   }
 
   pub not_made : (r ≡ 0 → ⊥) → RunMeets before made m k n script images codes r

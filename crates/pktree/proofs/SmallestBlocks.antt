@@ -113,8 +113,8 @@ module _ (panel : Panel) (marked : ℕ → Bool) (x : ℕ) where
       } in
       absurd (omega (arith, h.below, s.least i c there inside))
 
-  -- the law, as an equation of tests; other crates have it from `element_exactly` alone
-  marked_as_element : {level block : ℕ} → 2 ≤ panel.k → Smallest panel marked x level block → marked x ≡ member (pixel_elements (gather marked panel.k level block)) x
+  -- the law, as an equation of tests; other crates rest on `element_exactly`
+  pub marked_as_element : {level block : ℕ} → 2 ≤ panel.k → Smallest panel marked x level block → marked x ≡ member (pixel_elements (gather marked panel.k level block)) x
   marked_as_element {level} {block} k_from s =
       let b = s.instantiated.of_panel in
       let all : member (pixels (gather marked panel.k level block)) x ≡ marked x =

@@ -1,5 +1,5 @@
 -- 02, P6: the count of the whole panel is the root's number.
-use Rattle.std.proofs.Common.{◌≡◌, ℕ, ◌+◌, ◌^◌, ◌<◌, ◌≤◌, Bool, true, List, length, sym, refl, ap, ◌∙◌, subst, ap₂, inl, inr, le_trans, arith, pow_pos}
+use Rattle.std.proofs.Common.{◌≡◌, ℕ, ◌<◌, ◌≤◌, Bool, true, List, length, sym, refl, ap, ◌∙◌, subst, ap₂, inl, inr, le_trans, arith, pow_pos}
 use native.Mathlib.Nat.{pow-le-pow_right}
 use Rattle.pktree.specs.Elements.{empty}
 use Rattle.pktree.specs.Tree.{block_of}

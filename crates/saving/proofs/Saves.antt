@@ -3,7 +3,7 @@ use Rattle.std.proofs.Common.{◌≡◌, ℕ, ◌+◌, ◌-◌, ◌<◌, ◌≤�
 use Rattle.pktree.specs.Elements.{Forest, empty, pixel, block, ◌⧺◌}
 use Rattle.pktree.specs.Entries.{entries}
 use Rattle.pktree.proofs.EntryOrder.{entries_join}
-use Rattle.pktree.proofs.Forests.{block_count, block_count_join}
+use Rattle.pktree.proofs.Forests.{block_count_join}
 use Rattle.store.specs.declared.opening.Opening.{Opening}
 use Rattle.store.specs.declared.opening.Opening.TheVariants.{Damaged}
 use Rattle.measures.specs.Layout.{LayoutFits}

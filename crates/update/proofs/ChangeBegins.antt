@@ -6,7 +6,7 @@ use mathlib.Core.Logic.{◌⊎◌, inl, inr}
 use mathlib.Core.List.{List, [], ◌∷◌, ◌++◌}
 use lib.Dec.{eqb}
 use lib.ListN.{length, length-append}
-use Rattle.pktree.specs.Elements.{pixel, block, ◌⧺◌, size}
+use Rattle.pktree.specs.Elements.{pixel, ◌⧺◌, size}
 use Rattle.pktree.specs.Tree.{pixels}
 use Rattle.pktree.proofs.Forests.{size_join}
 use Rattle.pktree.proofs.Arranged.{quarter_level, LocallyRight}

@@ -1,7 +1,4 @@
 -- `asking::ask` meets its contract: what `locate` ensures is the answer.
-use native.Mathlib.Omega.{arith}
-use mathlib.Core.Path.{refl}
-use Rattle.measures.proofs.Usable.{sizes_valid, layout_fits}
 use Rattle.asking.proofs.Asks.{asked_known, asked_damaged}
 use Rattle.asking.proofs.ask.Goals as goal
 

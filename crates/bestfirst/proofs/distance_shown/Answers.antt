@@ -1,4 +1,4 @@
-use Rattle.bestfirst.proofs.Stating.{distance_as_found, none_as_zero}
+use Rattle.bestfirst.proofs.Stating.{none_as_zero}
 use Rattle.bestfirst.proofs.distance_shown.Goals as goal
 
 pub returns-else-distance-lt-BEYOND : goal.returns-else-distance-lt-BEYOND

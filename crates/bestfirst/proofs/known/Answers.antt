@@ -1,4 +1,3 @@
-use borrow.Author.Rules.{rules}
 use mathlib.Core.Path.{refl}
 use Rattle.bestfirst.proofs.Stating.{stated}
 use Rattle.bestfirst.proofs.known.Goals as goal

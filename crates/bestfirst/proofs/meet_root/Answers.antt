@@ -1,4 +1,3 @@
-use borrow.Author.Rules.{rules}
 use Rattle.bestfirst.proofs.Looping.{root_met}
 use Rattle.bestfirst.proofs.meet_root.Goals as goal
 

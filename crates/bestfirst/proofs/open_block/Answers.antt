@@ -1,6 +1,5 @@
 use borrow.Author.Rules.{rules}
-use Rattle.query.proofs.Openings.{next_below}
-use Rattle.bestfirst.proofs.Turns.{room_left, next_low, part_laid, turn_shut, turn_opened, turn_damaged}
+use Rattle.bestfirst.proofs.Turns.{turn_shut, turn_opened, turn_damaged}
 use Rattle.bestfirst.proofs.open_block.Goals as goal
 
 pub returns-in-Upto : goal.returns-in-Upto

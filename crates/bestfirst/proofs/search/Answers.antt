@@ -1,7 +1,4 @@
-use Prim.Native.Nat.{◌-◌}
-use native.Mathlib.Omega.{arith}
-use borrow.Author.Rules.{rules}
-use Rattle.bestfirst.proofs.Looping.{Looping, loop_starts, loop_full, loop_complete, loop_spent, keys_lent, tags_lent, loop_damaged, loop_goes_on, loop_over}
+use Rattle.bestfirst.proofs.Looping.{loop_full, loop_complete, loop_spent, loop_damaged, loop_goes_on, loop_over}
 use Rattle.bestfirst.proofs.search.Goals as goal
 
 pub returns-then-keys-met-lt-MOST_ELEMENTS : goal.returns-then-keys-met-lt-MOST_ELEMENTS

@@ -1,7 +1,5 @@
 use Prim.Native.Nat.{◌-◌}
-use native.Mathlib.Omega.{arith}
-use borrow.Author.Rules.{rules}
-use Rattle.bestfirst.proofs.Looping.{Looping, loop_starts, loop_full, loop_complete, loop_spent, keys_lent, tags_lent, loop_damaged, loop_goes_on, loop_over}
+use Rattle.bestfirst.proofs.Looping.{Looping}
 use Rattle.bestfirst.proofs.search.Given as goal
 
 abbrev pub invariant-loop-met : goal.invariant-loop-met

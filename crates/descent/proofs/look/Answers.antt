@@ -1,7 +1,6 @@
 -- `descent::look` meets its contract: the element before the code's place is decoded, and codes share a block just from their common level on.
-use native.Mathlib.Omega.{arith}
 use borrow.Author.Rules.{rules}
-use Rattle.descent.proofs.Looking.{own_pixel, after_pixel, after_block, in_block}
+use Rattle.descent.proofs.Looking.{in_block}
 use Rattle.descent.proofs.look.Goals as goal
 
 pub returns : goal.returns

@@ -1,9 +1,5 @@
-use Prim.Native.Nat.{◌+◌, ◌-◌, ◌*◌, ◌≤◌, ◌<◌}
-use native.Mathlib.Omega.{arith}
-use mathlib.Core.Path.{◌≡◌}
-use borrow.Author.Rules.{rules}
+use Prim.Native.Nat.{◌≤◌, ◌<◌}
 use Rattle.elements.specs.Splice.{code_at}
-use Rattle.measures.specs.Slot.{element_index}
 use Rattle.elements.proofs.find_place.Given as goal
 
 abbrev pub invariant-loop-place : goal.invariant-loop-place

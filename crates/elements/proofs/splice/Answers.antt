@@ -1,5 +1,4 @@
 -- `elements::splice` meets its contract: what the move, the copy and the new number leave is the law of `Splices`.
-use borrow.Author.Rules.{rules}
 use Rattle.elements.proofs.Splices.{splice_law}
 use Rattle.elements.proofs.splice.Goals as goal
 

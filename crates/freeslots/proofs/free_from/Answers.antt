@@ -1,21 +1,15 @@
 -- `freeslots::free_from` meets its contract. The loop's invariant: the slots from `slot` on are in the chain, and the rest is as it was.
-use Prim.Native.Nat.{◌≤◌}
 use native.Mathlib.Omega.{arith}
-use mathlib.Core.Path.{◌∙◌}
-use lib.ListN.{length-set}
-use borrow.Author.Rules.{rules}
-use Rattle.freeslots.specs.FreeSlots.{FreeFrom}
-use Rattle.freeslots.proofs.FreedSlots.{none_long, none_fits, none_freed, one_more_freed, freed_down}
+use Rattle.freeslots.proofs.FreedSlots.{none_fits, one_more_freed, freed_down}
 use Rattle.freeslots.proofs.free_from.Goals as goal
 
 pub loop-slot-preserved : goal.loop-slot-preserved
-loop-slot-preserved c =
-    (
-      omega arith,
-      omega arith,
-      one_more_freed c.args.layout c.loop-slot.slot _ c.loop-slot.store c.release.new.store (none_fits c.args.layout c.args.store.now c.requires.0)
-          (omega arith) (omega arith) c.loop-slot.invariant.2 c.release.ensures,
-    )
+loop-slot-preserved c = (
+  omega arith,
+  omega arith,
+  one_more_freed c.args.layout c.loop-slot.slot _ c.loop-slot.store c.release.new.store (none_fits c.args.layout c.args.store.now c.requires.0)
+      (omega arith) (omega arith) c.loop-slot.invariant.2 c.release.ensures,
+)
 
 pub returns : goal.returns
 returns c = freed_down _ c.loop-slot.slot _ c.args.store.now _ (omega arith) c.loop-slot.invariant.2

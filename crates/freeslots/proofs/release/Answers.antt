@@ -1,7 +1,5 @@
 -- `freeslots::release` meets its contract: two words of the slot and words 6 and 7 are set, which puts the slot before the chain.
 use native.Mathlib.Omega.{arith}
-use lib.ListN.{length-set}
-use borrow.Author.Rules.{rules}
 use Rattle.freeslots.proofs.FreeChains.{slot_released}
 use Rattle.freeslots.proofs.release.Goals as goal
 

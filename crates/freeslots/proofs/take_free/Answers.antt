@@ -2,8 +2,7 @@
 use Prim.Native.Nat.{ℕ, ◌+◌, ◌<◌}
 use native.Mathlib.Omega.{arith}
 use mathlib.Core.Path.{◌≡◌, refl, sym, ◌∙◌}
-use lib.ListN.{get_or, length-set}
-use borrow.Author.Rules.{rules}
+use lib.ListN.{get_or}
 use Rattle.measures.specs.Layout.{narrowest_slot}
 use Rattle.measures.specs.Words.{first_free_word}
 use Rattle.measures.specs.Slot.{slot_part}
@@ -24,11 +23,10 @@ pub returns-then-store-at-ne0 : goal.returns-then-store-at-ne0
 returns-then-store-at-ne0 c = (refl, λ inside free few. c.if-store-at-ne0.true (sym (free_word (goal.at.returns-then-store-at-ne0 c).After-offset-at _ 0 (omega arith) (omega arith)) ∙ free))
 
 pub returns : goal.returns
-returns c =
-    (
-      refl,
-      omega arith,
-      free_word (goal.at.returns c).After-offset-at _ 0 (omega arith) (omega arith) ∙ c.if-store-at-ne0.false,
-      omega arith,
-      rw (free_word (goal.at.returns c).After-offset-at (c.offset-at.result + 3) 3 refl (omega arith)),
-    )
+returns c = (
+  refl,
+  omega arith,
+  free_word (goal.at.returns c).After-offset-at _ 0 (omega arith) (omega arith) ∙ c.if-store-at-ne0.false,
+  omega arith,
+  rw (free_word (goal.at.returns c).After-offset-at (c.offset-at.result + 3) 3 refl (omega arith)),
+)

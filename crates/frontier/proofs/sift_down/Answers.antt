@@ -1,8 +1,6 @@
 -- `frontier::sift_down` meets its contract. The loop's invariant: a hole sinks, and the entry right above it has no higher key.
-use Prim.Native.Nat.{◌-◌}
 use native.Mathlib.Omega.{arith}
-use borrow.Author.Rules.{rules}
-use Rattle.frontier.proofs.HoleMoves.{Sinking, sinking_starts, sinks_on, sinking_ends}
+use Rattle.frontier.proofs.HoleMoves.{sinks_on}
 use Rattle.frontier.proofs.sift_down.Goals as goal
 
 pub loop-i-preserved : goal.loop-i-preserved

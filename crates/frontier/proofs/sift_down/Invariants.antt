@@ -1,7 +1,5 @@
 use Prim.Native.Nat.{◌-◌}
-use native.Mathlib.Omega.{arith}
-use borrow.Author.Rules.{rules}
-use Rattle.frontier.proofs.HoleMoves.{Sinking, sinking_starts, sinks_on, sinking_ends}
+use Rattle.frontier.proofs.HoleMoves.{Sinking}
 use Rattle.frontier.proofs.sift_down.Given as goal
 
 abbrev pub invariant-loop-i : goal.invariant-loop-i

@@ -1,8 +1,7 @@
 -- `frontier::sift_up` meets its contract. The loop's invariant: a hole rises, and the entries right below it have no lower key.
 use native.Mathlib.Omega.{arith}
 use mathlib.Core.Path.{refl}
-use borrow.Author.Rules.{rules}
-use Rattle.frontier.proofs.HoleMoves.{Rising, rising_starts, rises_on, rising_ends}
+use Rattle.frontier.proofs.HoleMoves.{rises_on}
 use Rattle.frontier.proofs.sift_up.Goals as goal
 
 pub loop-i-preserved : goal.loop-i-preserved

@@ -1,7 +1,4 @@
-use native.Mathlib.Omega.{arith}
-use mathlib.Core.Path.{refl}
-use borrow.Author.Rules.{rules}
-use Rattle.frontier.proofs.HoleMoves.{Rising, rising_starts, rises_on, rising_ends}
+use Rattle.frontier.proofs.HoleMoves.{Rising}
 use Rattle.frontier.proofs.sift_up.Given as goal
 
 abbrev pub invariant-loop-i : goal.invariant-loop-i

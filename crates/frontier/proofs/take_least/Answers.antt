@@ -1,8 +1,6 @@
 -- `frontier::take_least` meets its contract.
-use native.Mathlib.Omega.{arith}
 use borrow.Author.Rules.{rules}
-use Rattle.frontier.proofs.HeapLaws.{heap_fewer}
-use Rattle.frontier.proofs.FilledHoles.{taken, taken_only}
+use Rattle.frontier.proofs.FilledHoles.{taken}
 use Rattle.frontier.proofs.take_least.Goals as goal
 
 pub returns-then-last-gt0 : goal.returns-then-last-gt0

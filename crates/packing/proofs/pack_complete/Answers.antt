@@ -1,6 +1,6 @@
 -- `packing::pack_complete` meets its contract. The loop's invariant: what was due at first is due still, and the stack gets shorter.
 use borrow.Author.Rules.{rules}
-use Rattle.packing.proofs.PackTurns.{Going, going_first, level_small, pack_here, count_falls, going_on, ends_short, ends_high}
+use Rattle.packing.proofs.PackTurns.{going_first, pack_here, going_on, ends_short, ends_high}
 use Rattle.packing.proofs.pack_complete.Goals as goal
 
 pub returns-then-limit-level : goal.returns-then-limit-level

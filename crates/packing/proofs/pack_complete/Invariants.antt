@@ -1,5 +1,4 @@
-use borrow.Author.Rules.{rules}
-use Rattle.packing.proofs.PackTurns.{Going, going_first, level_small, pack_here, count_falls, going_on, ends_short, ends_high}
+use Rattle.packing.proofs.PackTurns.{Going}
 use Rattle.packing.proofs.pack_complete.Given as goal
 
 abbrev pub invariant-loop-packed : goal.invariant-loop-packed

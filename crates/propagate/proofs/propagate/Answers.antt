@@ -3,17 +3,14 @@ use Prim.Native.Nat.{ℕ, ◌-◌}
 use native.Mathlib.Omega.{arith}
 use mathlib.Core.Path.{◌≡◌, refl, subst, sym, ◌∙◌}
 use mathlib.Core.Bool.{Bool, true}
-use mathlib.Core.List.{List, [], ◌∷◌}
-use lib.ListN.{set, replicate}
-use borrow.Author.Rules.{rules}
+use mathlib.Core.List.{List}
 use Rattle.ascent.proofs.Pending.{Setting}
 use Rattle.ascent.proofs.Completed.{Completed}
-use Rattle.step.specs.Step.{Kept, FewHandedUp}
+use Rattle.step.specs.Step.{FewHandedUp}
 use Rattle.step.proofs.StepEnds.{kept_then}
 use Rattle.propagate.specs.declared.Parent.TheVariants.{Block}
 use Rattle.propagate.specs.Propagate.{ParentIs, PendingAt, OfChange, PropagateMeets}
-use Rattle.propagate.proofs.Propagation.{InBounds, Carried, fits_kept, rests, never_damaged, moves_up, never_unnamed, begins}
-use Rattle.rewrite.specs.Rewrite.{scratch_words}
+use Rattle.propagate.proofs.Propagation.{fits_kept, rests, never_damaged, moves_up, never_unnamed}
 use Rattle.propagate.proofs.propagate.Goals as goal
 use Rattle.propagate.proofs.propagate.Goals.{After-step, In-Block}
 

@@ -1,18 +1,5 @@
-use Prim.Native.Nat.{ℕ, ◌-◌}
-use native.Mathlib.Omega.{arith}
-use mathlib.Core.Path.{◌≡◌, refl, subst, sym, ◌∙◌}
-use mathlib.Core.Bool.{Bool, true}
-use mathlib.Core.List.{List, [], ◌∷◌}
-use lib.ListN.{set, replicate}
-use borrow.Author.Rules.{rules}
-use Rattle.ascent.proofs.Pending.{Setting}
-use Rattle.ascent.proofs.Completed.{Completed}
-use Rattle.step.specs.Step.{Kept, FewHandedUp}
-use Rattle.step.proofs.StepEnds.{kept_then}
-use Rattle.propagate.specs.declared.Parent.TheVariants.{Block}
-use Rattle.propagate.specs.Propagate.{ParentIs, PendingAt, OfChange, PropagateMeets}
-use Rattle.propagate.proofs.Propagation.{InBounds, Carried, fits_kept, rests, never_damaged, moves_up, never_unnamed, begins}
-use Rattle.rewrite.specs.Rewrite.{scratch_words}
+use Rattle.step.specs.Step.{Kept}
+use Rattle.propagate.proofs.Propagation.{InBounds, Carried}
 use Rattle.propagate.proofs.propagate.Given as goal
 
 abbrev pub invariant-loop-count : goal.invariant-loop-count

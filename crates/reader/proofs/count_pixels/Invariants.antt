@@ -1,12 +1,7 @@
-use native.Mathlib.Omega.{arith}
-use Prim.Native.Nat.{ℕ, ◌+◌, ◌≤◌}
+use Prim.Native.Nat.{◌+◌, ◌≤◌}
 use mathlib.Core.Path.{◌≡◌}
-use mathlib.Core.List.{List}
 use lib.ListN.{length, drop}
-use lib.Seq.{drop-length}
-use borrow.Author.Rules.{rules}
 use Rattle.reader.specs.PixelCount.{pixel_levels}
-use Rattle.reader.proofs.PixelNumber.{pixel_here, block_here}
 use Rattle.reader.proofs.count_pixels.Given as goal
 
 abbrev pub invariant-loop-at : goal.invariant-loop-at

@@ -3,7 +3,6 @@ use native.Mathlib.Omega.{arith}
 use mathlib.Core.Path.{sym, ◌∙◌}
 use Rattle.reader.proofs.BlockSize.{shifted_code}
 use Rattle.measures.proofs.Decides.{eqb_decides}
-use borrow.Author.Rules.{rules}
 use Rattle.reader.proofs.fits_quarter.Goals as goal
 
 pub returns : goal.returns

@@ -2,7 +2,7 @@
 use native.Mathlib.Omega.{arith}
 use borrow.Author.Rules.{rules}
 use Rattle.image.proofs.ImageBytes.{Bytes}
-use Rattle.reader.proofs.RootRead.{as_long, no_root, root_can, root_wrong, entries_unread, pixels_decide}
+use Rattle.reader.proofs.RootRead.{no_root, root_can, root_wrong, entries_unread, pixels_decide}
 use Rattle.reader.proofs.is_image_of_some.Goals as goal
 
 pub returns-then-not-is_entry : goal.returns-then-not-is_entry

@@ -1,11 +1,9 @@
 -- `renumbering::renumber_path` meets its contract: each turn renumbers one slot more of the path.
-use Prim.Native.Nat.{◌-◌, ◌≤◌}
 use native.Mathlib.Numerals.{add-one}
 use native.Mathlib.Omega.{arith}
 use mathlib.Core.Path.{◌≡◌}
-use borrow.Author.Rules.{rules}
-use Rattle.renumbering.specs.Renumber.{path_slots, PathRenumbered}
-use Rattle.renumbering.proofs.Renumbering.{none_renumbered, one_renumbered, fits_renumbered}
+use Rattle.renumbering.specs.Renumber.{path_slots}
+use Rattle.renumbering.proofs.Renumbering.{one_renumbered, fits_renumbered}
 use Rattle.renumbering.proofs.renumber_path.Goals as goal
 
 pub loop-i-preserved : goal.loop-i-preserved

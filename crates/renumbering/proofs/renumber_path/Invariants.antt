@@ -1,10 +1,5 @@
 use Prim.Native.Nat.{◌-◌, ◌≤◌}
-use native.Mathlib.Numerals.{add-one}
-use native.Mathlib.Omega.{arith}
-use mathlib.Core.Path.{◌≡◌}
-use borrow.Author.Rules.{rules}
 use Rattle.renumbering.specs.Renumber.{path_slots, PathRenumbered}
-use Rattle.renumbering.proofs.Renumbering.{none_renumbered, one_renumbered, fits_renumbered}
 use Rattle.renumbering.proofs.renumber_path.Given as goal
 
 abbrev pub invariant-loop-i : goal.invariant-loop-i

@@ -1,6 +1,5 @@
 -- `renumbering::renumber_slot` meets its contract: the number of the slot is set.
 use native.Mathlib.Omega.{arith}
-use borrow.Author.Rules.{rules}
 use Rattle.renumbering.proofs.Renumbering.{slot_renumbered}
 use Rattle.renumbering.proofs.renumber_slot.Goals as goal
 

@@ -1,7 +1,7 @@
 -- `rewrite::form_block` meets its contract: taking the slot, the move, the splice and the header leave together what `Moves` says.
 use mathlib.Core.Path.{refl}
 use borrow.Author.Rules.{rules}
-use Rattle.rewrite.proofs.Moves.{fresh_small, taken_fits, run_still_within, lent_within, fresh_below, moved_fits, moved_gives_way, run_few, cut_fits, block_formed}
+use Rattle.rewrite.proofs.Moves.{taken_fits, run_still_within, lent_within, moved_gives_way, run_few, block_formed}
 use Rattle.rewrite.proofs.form_block.Goals as goal
 
 pub returns : goal.returns

@@ -3,7 +3,7 @@ use native.Mathlib.Omega.{arith}
 use borrow.Author.Rules.{rules}
 use Prim.Native.Nat.{◌+◌, ◌*◌, ◌≤◌}
 use Rattle.measures.specs.Layout.{most_element_words}
-use Rattle.rewrite.proofs.Runs.{run_in_part, run_fits, run_small, run_moved}
+use Rattle.rewrite.proofs.Runs.{run_in_part, run_fits, run_small}
 use Rattle.rewrite.proofs.move_run.Goals as goal
 
 pub copy_run-requires : goal.copy_run-requires

@@ -1,6 +1,5 @@
 -- `runs::find_run` meets its contract: where the quarter around the code holds fewer than k elements, so does every lower block.
 use native.Mathlib.Omega.{arith}
-use borrow.Author.Rules.{rules}
 use Rattle.runs.proofs.Runs.{few_reached}
 use Rattle.runs.proofs.find_run.Goals as goal
 

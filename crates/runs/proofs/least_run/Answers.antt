@@ -1,11 +1,10 @@
 -- `runs::least_run` meets its contract: all from `left` up to `right` are near at the level reached, and no lower block holds k.
 use Prim.Native.Nat.{◌-◌, ◌≤◌, ◌<◌}
 use native.Mathlib.Omega.{arith}
-use borrow.Author.Rules.{rules}
 use Rattle.elements.specs.Splice.{PlaceOf}
 use Rattle.runs.specs.declared.RunFound.TheVariants.{Nothing}
-use Rattle.runs.specs.Run.{AscendingCodes, LevelBefore, LevelAt, RunMeets}
-use Rattle.runs.proofs.Runs.{Outward, some_before, some_at, few_near, take_left, take_right, run_found}
+use Rattle.runs.specs.Run.{RunMeets}
+use Rattle.runs.proofs.Runs.{some_before, some_at, few_near, take_left, take_right, run_found}
 use Rattle.runs.proofs.least_run.Goals as goal
 use Rattle.runs.proofs.least_run.Goals.{At-loop-right}
 

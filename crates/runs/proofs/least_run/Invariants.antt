@@ -1,10 +1,6 @@
 use Prim.Native.Nat.{◌-◌, ◌≤◌, ◌<◌}
-use native.Mathlib.Omega.{arith}
-use borrow.Author.Rules.{rules}
-use Rattle.elements.specs.Splice.{PlaceOf}
-use Rattle.runs.specs.declared.RunFound.TheVariants.{Nothing}
-use Rattle.runs.specs.Run.{AscendingCodes, LevelBefore, LevelAt, RunMeets}
-use Rattle.runs.proofs.Runs.{Outward, some_before, some_at, few_near, take_left, take_right, run_found}
+use Rattle.runs.specs.Run.{AscendingCodes, LevelBefore, LevelAt}
+use Rattle.runs.proofs.Runs.{Outward}
 use Rattle.runs.proofs.least_run.Given as goal
 
 abbrev pub invariant-loop-right : goal.invariant-loop-right

@@ -1,11 +1,6 @@
-use Prim.Native.Nat.{ℕ, ◌+◌, ◌-◌, ◌*◌, ◌≤◌, ◌<◌}
-use native.Mathlib.Omega.{arith}
-use mathlib.Core.Path.{◌≡◌, sym, ◌∙◌}
-use borrow.Author.Rules.{rules}
+use Prim.Native.Nat.{ℕ, ◌≤◌, ◌<◌}
 use Rattle.elements.specs.Splice.{code_at}
 use Rattle.runs.specs.Run.{Near}
-use Rattle.runs.proofs.Runs.{near_with}
-use Rattle.measures.specs.Slot.{element_index}
 use Rattle.runs.proofs.reach_left.Given as goal
 
 abbrev pub invariant-loop-left : goal.invariant-loop-left

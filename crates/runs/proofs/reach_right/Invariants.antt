@@ -1,10 +1,6 @@
 use Prim.Native.Nat.{ℕ, ◌-◌, ◌≤◌, ◌<◌}
-use native.Mathlib.Omega.{arith}
-use mathlib.Core.Path.{sym, ◌∙◌}
-use borrow.Author.Rules.{rules}
 use Rattle.elements.specs.Splice.{code_at}
 use Rattle.runs.specs.Run.{Near}
-use Rattle.runs.proofs.Runs.{near_with}
 use Rattle.runs.proofs.reach_right.Given as goal
 
 abbrev pub invariant-loop-right : goal.invariant-loop-right

@@ -1,5 +1,5 @@
 -- The level of the block around falls.
-use Rattle.std.proofs.Common.{◌≡◌, ◌-◌, ◌≤◌, length}
+use Rattle.std.proofs.Common.{◌≡◌, ◌≤◌, length}
 use Rattle.walks.proofs.Walks.{InLoop}
 use Rattle.saving.specs.Saving.{CanSave, EntriesPut}
 use Rattle.saving.proofs.+save_block.Given as goal

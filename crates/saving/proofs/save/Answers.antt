@@ -1,7 +1,6 @@
 -- `saving::save` meets its contract: the numbers of pixels and blocks give that of the entries, and the walk from the root writes them all.
-use Rattle.std.proofs.Common.{arith, rules}
-use Rattle.measures.proofs.Bounds.{slot_count_bounded}
-use Rattle.saving.proofs.SaveAnswers.{no_numbers, too_short, not_all, all_written}
+use Rattle.std.proofs.Common.{rules}
+use Rattle.saving.proofs.SaveAnswers.{too_short, not_all, all_written}
 use Rattle.saving.proofs.save.Goals as goal
 
 pub returns-then-output-needed : goal.returns-then-output-needed

@@ -1,8 +1,4 @@
 -- `saving::write_image` meets its contract: the header first, then the walk from the root.
-use Rattle.std.proofs.Common.{arith, rules}
-use Rattle.measures.proofs.Usable.{sizes_valid}
-use Rattle.image.proofs.EntryWrites.{length_headed}
-use Rattle.saving.proofs.SaveAnswers.{can_save}
 use Rattle.saving.proofs.write_image.Goals as goal
 
 pub returns : goal.returns

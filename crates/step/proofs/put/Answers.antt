@@ -2,7 +2,6 @@
 use native.Mathlib.Omega.{arith}
 use Prim.Native.Nat.{ℕ, ◌+◌, ◌-◌, ◌/◌, ◌≤◌}
 use mathlib.Core.Path.{◌≡◌, refl, ap, ◌∙◌}
-use borrow.Author.Rules.{rules}
 use Rattle.measures.specs.Slot.{slot_part, count_word}
 use Rattle.elements.specs.Splice.{CanSplice}
 use Rattle.step.proofs.PutLaws.{count_at, put_can, put_cannot}

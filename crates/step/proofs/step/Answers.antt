@@ -1,9 +1,8 @@
 -- `step::step` meets its contract: what `put` leaves is laid, and what is then found in the slot ends the step as `StepEnds` says.
 use native.Mathlib.Omega.{arith}
-use borrow.Author.Rules.{rules}
 use Rattle.step.specs.declared.Placing.TheVariants.{Elements}
 use Rattle.step.specs.Step.{PutMeets}
-use Rattle.step.proofs.StepEnds.{level_there, can_search, can_hand_up, can_regroup, never_refused, never_too_high, at_rest_or_deinstantiated_none_inserted, at_rest_or_deinstantiated_no_run, formed_then}
+use Rattle.step.proofs.StepEnds.{can_hand_up, can_regroup, never_refused, never_too_high, at_rest_or_deinstantiated_none_inserted, at_rest_or_deinstantiated_no_run, formed_then}
 use Rattle.step.proofs.step.Goals as goal
 use Rattle.step.proofs.step.Goals.{In-Elements}
 

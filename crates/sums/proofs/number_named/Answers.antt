@@ -3,10 +3,9 @@ use Prim.Native.Nat.{ℕ, ◌+◌}
 use native.Mathlib.Omega.{arith}
 use mathlib.Core.Path.{◌≡◌, refl, sym, ◌∙◌}
 use lib.ListN.{get_or}
-use borrow.Author.Rules.{rules}
 use Rattle.measures.specs.Slot.{slot_part, number_word, number_index}
 use Rattle.measures.proofs.SlotWrites.{slot_word}
-use Rattle.sums.proofs.ElementNumbers.{said_no_slot, said_too_many, said, named_slot}
+use Rattle.sums.proofs.ElementNumbers.{said_too_many, said, named_slot}
 use Rattle.sums.proofs.number_named.Goals as goal
 use Rattle.sums.proofs.number_named.Goals.{After-offset-at}
 

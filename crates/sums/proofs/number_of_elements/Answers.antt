@@ -1,12 +1,6 @@
 -- `sums::number_of_elements` meets its contract: the sum so far and what the elements left stand for are the whole.
-use Prim.Native.Nat.{◌+◌, ◌-◌, ◌*◌, ◌≤◌}
 use native.Mathlib.Omega.{arith}
-use mathlib.Core.Path.{◌≡◌}
-use lib.ListN.{drop}
-use borrow.Author.Rules.{rules}
-use Rattle.measures.specs.Sizes.{largest_most}
-use Rattle.sums.specs.Sum.{number_of_elements}
-use Rattle.sums.proofs.ElementNumbers.{number_start, number_turn}
+use Rattle.sums.proofs.ElementNumbers.{number_turn}
 use Rattle.sums.proofs.number_of_elements.Goals as goal
 
 pub loop-i-preserved : goal.loop-i-preserved

@@ -1,11 +1,8 @@
 use Prim.Native.Nat.{◌+◌, ◌-◌, ◌*◌, ◌≤◌}
-use native.Mathlib.Omega.{arith}
 use mathlib.Core.Path.{◌≡◌}
 use lib.ListN.{drop}
-use borrow.Author.Rules.{rules}
 use Rattle.measures.specs.Sizes.{largest_most}
 use Rattle.sums.specs.Sum.{number_of_elements}
-use Rattle.sums.proofs.ElementNumbers.{number_start, number_turn}
 use Rattle.sums.proofs.number_of_elements.Given as goal
 
 abbrev pub invariant-loop-i : goal.invariant-loop-i

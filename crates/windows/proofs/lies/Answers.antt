@@ -1,6 +1,4 @@
 -- `windows::lies` meets its contract.
-use borrow.Author.Rules.{rules}
-use borrow.Author.Tests.{not-true, not-false}
 use Rattle.windows.proofs.LyingTests.{lies_apart, lies_within, lies_over}
 use Rattle.windows.proofs.lies.Goals as goal
 

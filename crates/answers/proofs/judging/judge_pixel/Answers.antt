@@ -1,10 +1,7 @@
 -- `answers::judging::judge_pixel` meets its contract: the shift gives the panel's side, and each test taken puts one coordinate off the panel.
 use native.Mathlib.Omega.{arith}
-use mathlib.Core.Path.{refl}
-use mathlib.Core.Logic.{inl, inr}
-use borrow.Author.Rules.{rules}
 use Rattle.promises.specs.Effect.{HasPixelOn}
-use Rattle.answers.proofs.Sides.{Known, order_small, side_of_order, code_on_panel}
+use Rattle.answers.proofs.Sides.{Known, side_of_order, code_on_panel}
 use Rattle.answers.proofs.judging.judge_pixel.Goals as goal
 use Rattle.answers.proofs.judging.judge_pixel.Goals.{After-struct_known-1}
 

@@ -1,10 +1,7 @@
 use Prim.Native.Nat.{◌-◌, ◌<◌, ◌^◌}
-use native.Mathlib.Omega.{arith}
 use mathlib.Core.Logic.{◌↔◌}
 use lib.ListN.{length, drop}
-use borrow.Author.Rules.{rules}
 use Rattle.pktree.specs.Lists.{Every}
-use Rattle.filling.proofs.JudgedCodes.{all_left, on_panel_next, off_panel, all_on_panel_lem}
 use Rattle.filling.proofs.codes.all_on_panel.Given as goal
 
 abbrev pub invariant-loop-at : goal.invariant-loop-at

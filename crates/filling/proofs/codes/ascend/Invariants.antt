@@ -1,10 +1,7 @@
 use Prim.Native.Nat.{◌-◌}
-use native.Mathlib.Omega.{arith}
 use mathlib.Core.Logic.{◌↔◌}
 use lib.ListN.{length, drop}
-use borrow.Author.Rules.{rules}
 use Rattle.pktree.specs.PixelSet.{Ascending}
-use Rattle.filling.proofs.JudgedCodes.{all_left, ascend_next, falls_back, all_ascend}
 use Rattle.filling.proofs.codes.ascend.Given as goal
 
 abbrev pub invariant-loop-at : goal.invariant-loop-at

@@ -1,10 +1,7 @@
 -- `filling::fill::append_all` meets its contract. The loop's invariant: the first codes are appended, and those to come lie beyond them.
-use Prim.Native.Nat.{◌-◌}
-use lib.ListN.{length, take, drop}
 use borrow.Author.Rules.{rules}
-use Rattle.building.specs.Finish.{Appended}
-use Rattle.building.proofs.Appended.{none_appended, stack_kept}
-use Rattle.filling.proofs.AppendAll.{next_due, next_appended, all_appended}
+use Rattle.building.proofs.Appended.{none_appended}
+use Rattle.filling.proofs.AppendAll.{next_appended}
 use Rattle.filling.proofs.fill.append_all.Goals as goal
 
 pub loop-at-init : goal.loop-at-init

@@ -1,9 +1,6 @@
 use Prim.Native.Nat.{◌-◌}
 use lib.ListN.{length, take, drop}
-use borrow.Author.Rules.{rules}
 use Rattle.building.specs.Finish.{Appended}
-use Rattle.building.proofs.Appended.{none_appended, stack_kept}
-use Rattle.filling.proofs.AppendAll.{next_due, next_appended, all_appended}
 use Rattle.filling.proofs.fill.append_all.Given as goal
 
 abbrev pub invariant-loop-at : goal.invariant-loop-at

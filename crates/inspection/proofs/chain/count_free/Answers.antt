@@ -1,7 +1,6 @@
 -- `inspection::chain::count_free` meets its contract: the loop follows the chain slot by slot, and stops where no chain of so many slots goes on.
-use Prim.Native.Nat.{◌-◌, ◌≤◌}
 use borrow.Author.Rules.{rules}
-use Rattle.inspection.proofs.ChainFollowed.{FollowedTo, followed_none, no_end, next_absent, next_taken, next_followed, chain_ends}
+use Rattle.inspection.proofs.ChainFollowed.{next_absent, next_taken, next_followed, chain_ends}
 use Rattle.inspection.proofs.chain.count_free.Goals as goal
 
 pub returns-then-layout-slot : goal.returns-then-layout-slot

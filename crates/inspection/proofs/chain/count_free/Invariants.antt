@@ -1,6 +1,5 @@
 use Prim.Native.Nat.{◌-◌, ◌≤◌}
-use borrow.Author.Rules.{rules}
-use Rattle.inspection.proofs.ChainFollowed.{FollowedTo, followed_none, no_end, next_absent, next_taken, next_followed, chain_ends}
+use Rattle.inspection.proofs.ChainFollowed.{FollowedTo}
 use Rattle.inspection.proofs.chain.count_free.Given as goal
 
 abbrev pub invariant-loop-next : goal.invariant-loop-next

@@ -1,5 +1,4 @@
 -- `inspection::pass::block_end` meets its contract: neither part is more than 2 ^ 32.
-use borrow.Author.Rules.{rules}
 use native.Mathlib.Omega.{arith}
 use Rattle.morton.proofs.Blocks.{size_to}
 use Rattle.inspection.proofs.pass.block_end.Goals as goal

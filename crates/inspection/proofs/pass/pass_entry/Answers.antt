@@ -1,7 +1,6 @@
 -- `inspection::pass::pass_entry` meets its contract: each test that fails refuses at one place of the one-pass test, and all together go on.
-use borrow.Author.Rules.{rules}
 use native.Mathlib.Omega.{arith}
-use Rattle.inspection.proofs.PassSteps.{some_codes, few_codes, starts_too_low, too_large, not_aligned, quarter_full, goes_on_lem}
+use Rattle.inspection.proofs.PassSteps.{some_codes}
 use Rattle.inspection.proofs.pass.pass_entry.Goals as goal
 
 pub nonzero_rem-at : goal.nonzero_rem-at

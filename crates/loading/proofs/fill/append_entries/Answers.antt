@@ -1,12 +1,7 @@
 -- `loading::fill::append_entries` meets its contract. The loop's invariant: the pixels of the entries passed are appended, and those to come lie beyond them.
-use Prim.Native.Nat.{◌-◌, ◌^◌, ◌≤◌, ◌<◌}
 use native.Mathlib.Omega.{arith}
-use lib.ListN.{length}
 use borrow.Author.Rules.{rules}
-use Rattle.building.specs.Finish.{Appended}
-use Rattle.building.proofs.Appended.{appended_then, stack_kept}
-use Rattle.loading.specs.Filled.{pixels_to, pixels_from}
-use Rattle.loading.proofs.EntryPixels.{none_passed, entry_due, all_passed}
+use Rattle.loading.proofs.EntryPixels.{none_passed}
 use Rattle.loading.proofs.fill.append_entries.Goals as goal
 
 pub loop-at-init : goal.loop-at-init

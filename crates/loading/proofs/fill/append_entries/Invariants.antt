@@ -1,11 +1,7 @@
 use Prim.Native.Nat.{◌-◌, ◌^◌, ◌≤◌, ◌<◌}
-use native.Mathlib.Omega.{arith}
 use lib.ListN.{length}
-use borrow.Author.Rules.{rules}
 use Rattle.building.specs.Finish.{Appended}
-use Rattle.building.proofs.Appended.{appended_then, stack_kept}
 use Rattle.loading.specs.Filled.{pixels_to, pixels_from}
-use Rattle.loading.proofs.EntryPixels.{none_passed, entry_due, all_passed}
 use Rattle.loading.proofs.fill.append_entries.Given as goal
 
 abbrev pub invariant-loop-at : goal.invariant-loop-at

@@ -1,7 +1,5 @@
-use Prim.Native.Nat.{◌-◌, ◌≤◌}
 use native.Mathlib.Omega.{arith}
-use borrow.Author.Rules.{rules}
-use Rattle.meeting.proofs.SeenElements.{SeenTo, seen_none, seen_one, seen_all}
+use Rattle.meeting.proofs.SeenElements.{seen_one, seen_all}
 use Rattle.meeting.proofs.best.after_elements.Goals as goal
 
 pub loop-i-preserved : goal.loop-i-preserved

@@ -1,7 +1,5 @@
 use Prim.Native.Nat.{◌-◌, ◌≤◌}
-use native.Mathlib.Omega.{arith}
-use borrow.Author.Rules.{rules}
-use Rattle.meeting.proofs.SeenElements.{SeenTo, seen_none, seen_one, seen_all}
+use Rattle.meeting.proofs.SeenElements.{SeenTo}
 use Rattle.meeting.proofs.best.after_elements.Given as goal
 
 abbrev pub invariant-loop-i : goal.invariant-loop-i

@@ -1,7 +1,5 @@
-use Prim.Native.Nat.{◌-◌, ◌≤◌}
 use native.Mathlib.Omega.{arith}
-use borrow.Author.Rules.{rules}
-use Rattle.meeting.proofs.MetBlocks.{MetTo, met_none, met_one, met_damaged, met_all}
+use Rattle.meeting.proofs.MetBlocks.{met_one, met_damaged, met_all}
 use Rattle.meeting.proofs.blocks.meet_blocks.Goals as goal
 
 pub returns-in-Damaged : goal.returns-in-Damaged

@@ -1,5 +1,4 @@
 use borrow.Author.Rules.{rules}
-use native.Mathlib.Omega.{arith}
 use Rattle.meeting.proofs.DistanceLaws.{side_of, to_block}
 use Rattle.meeting.proofs.distance.block_distance.Goals as goal
 

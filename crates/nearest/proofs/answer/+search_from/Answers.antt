@@ -1,5 +1,4 @@
 -- `nearest::answer::search_from` meets its contract: arrays with room for all blocks are never full.
-use borrow.Author.Rules.{rules}
 use Rattle.nearest.proofs.Finding.{full_damaged, never_full_lem}
 use Rattle.nearest.proofs.answer.+search_from.Goals as goal
 

@@ -1,8 +1,5 @@
 use Prim.Native.Nat.{◌-◌, ◌≤◌}
-use native.Mathlib.Omega.{arith}
-use borrow.Author.Rules.{rules}
 use Rattle.nearest.specs.Copies.{EntriesCopied}
-use Rattle.nearest.proofs.Copying.{copied_none, copied_next, copied_all}
 use Rattle.nearest.proofs.answer.copy_entries.Given as goal
 
 abbrev pub invariant-loop-i : goal.invariant-loop-i

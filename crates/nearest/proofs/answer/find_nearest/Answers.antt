@@ -1,10 +1,6 @@
 -- `nearest::answer::find_nearest` meets its contract: what the search says is the page's own words.
 use native.Mathlib.Omega.{arith}
-use borrow.Author.Rules.{rules}
-use mathlib.Core.Path.{ap, sym, ◌∙◌}
-use Rattle.measures.specs.declared.sizes.Sizes.{Sizes}
-use Rattle.measures.proofs.Usable.{sizes_valid, layout_fits}
-use Rattle.nearest.proofs.Finding.{laid_told, no_budget, finds}
+use Rattle.nearest.proofs.Finding.{laid_told, finds}
 use Rattle.nearest.proofs.answer.find_nearest.Goals as goal
 
 pub returns : goal.returns

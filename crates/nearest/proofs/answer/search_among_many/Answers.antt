@@ -1,5 +1,4 @@
 use native.Mathlib.Omega.{arith}
-use borrow.Author.Rules.{rules}
 use mathlib.Core.Path.{sym, ◌∙◌}
 use Rattle.nearest.proofs.Copying.{goes_on_in}
 use Rattle.nearest.proofs.Finding.{ends}

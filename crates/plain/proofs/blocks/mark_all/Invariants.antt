@@ -1,6 +1,5 @@
 use Prim.Native.Nat.{◌-◌}
 use lib.ListN.{length}
-use borrow.Author.Rules.{rules}
 use Rattle.plain.proofs.blocks.mark_all.Given as goal
 
 abbrev pub invariant-loop-i : goal.invariant-loop-i

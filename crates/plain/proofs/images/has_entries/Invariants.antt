@@ -1,6 +1,4 @@
-use mathlib.Core.Logic.{⊎_elim}
 use Prim.Native.Nat.{◌-◌, ◌≤◌}
-use borrow.Author.Rules.{rules}
 use Rattle.plain.proofs.images.has_entries.Given as goal
 
 abbrev pub invariant-loop-place : goal.invariant-loop-place

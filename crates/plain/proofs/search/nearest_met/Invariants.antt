@@ -1,5 +1,4 @@
 use Prim.Native.Nat.{◌-◌}
-use borrow.Author.Rules.{rules}
 use Rattle.plain.proofs.search.nearest_met.Given as goal
 
 abbrev pub invariant-loop-place : goal.invariant-loop-place

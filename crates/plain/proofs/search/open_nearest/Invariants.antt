@@ -1,5 +1,4 @@
 use Prim.Native.Nat.{◌-◌}
-use borrow.Author.Rules.{rules}
 use Rattle.plain.proofs.search.open_nearest.Given as goal
 
 abbrev pub invariant-loop-opened : goal.invariant-loop-opened

@@ -1,6 +1,4 @@
-use mathlib.Core.Logic.{⊎_elim}
 use Prim.Native.Nat.{◌-◌, ◌≤◌}
-use borrow.Author.Rules.{rules}
 use Rattle.plain.proofs.window.is_list.Given as goal
 
 abbrev pub invariant-loop-code : goal.invariant-loop-code

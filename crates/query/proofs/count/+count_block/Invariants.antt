@@ -1,5 +1,4 @@
 -- The level of the block around falls.
-use Rattle.std.proofs.Common.{◌-◌}
 use Rattle.walks.proofs.Walks.{InLoop}
 use Rattle.query.proofs.Counts.{CountsElements}
 use Rattle.query.proofs.count.+count_block.Given as goal

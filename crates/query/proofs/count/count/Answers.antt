@@ -1,7 +1,5 @@
 -- `query::count::count` meets its contract: a window with the whole panel needs no walk, and an empty part none either.
 use Rattle.std.proofs.Common.{rules}
-use Rattle.measures.proofs.Usable.{sizes_valid}
-use Rattle.query.proofs.RootCount.{given_part, counted_part, none_counted}
 use Rattle.query.proofs.WholeCount.{panel_counted}
 use Rattle.query.proofs.count.count.Goals as goal
 

@@ -1,8 +1,6 @@
 -- `query::count::count_part` meets its contract: the whole panel is the root's number; else the walk starts at the root, below which all that 01 counts of the part is seen.
-use Rattle.std.proofs.Common.{Bool, subst, rules}
-use Rattle.measures.proofs.Usable.{sizes_valid}
-use Rattle.windows.specs.Corners.{InsideTested}
-use Rattle.query.proofs.RootCount.{can_query, count_counted}
+use Rattle.std.proofs.Common.{rules}
+use Rattle.query.proofs.RootCount.{count_counted}
 use Rattle.query.proofs.WholeCount.{part_whole}
 use Rattle.query.proofs.count.count_part.Goals as goal
 

@@ -1,7 +1,6 @@
 -- `query::count::count_whole` meets its contract: the root's slot is opened, and its number held against N.
-use Rattle.std.proofs.Common.{arith, rules}
-use Rattle.measures.proofs.Usable.{sizes_valid, layout_fits, part_has_head, part_narrow}
-use Rattle.query.proofs.WholeCount.{root_shut, number_above, number_within}
+use Rattle.std.proofs.Common.{rules}
+use Rattle.measures.proofs.Usable.{layout_fits, part_has_head, part_narrow}
 use Rattle.query.proofs.count.count_whole.Goals as goal
 
 pub open_part-requires : goal.open_part-requires

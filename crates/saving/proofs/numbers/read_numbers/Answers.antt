@@ -1,7 +1,7 @@
 -- `saving::numbers::read_numbers` meets its contract: each way out is a law of SaidNumbers. Assumes nothing.
 use Rattle.std.proofs.Common.{◌≤◌, arith, rules}
 use Rattle.measures.specs.Words.{blocks_word}
-use Rattle.measures.proofs.Usable.{sizes_valid, layout_fits, part_has_head, part_narrow}
+use Rattle.measures.proofs.Usable.{layout_fits, part_has_head, part_narrow}
 use Rattle.saving.proofs.SaidNumbers.{not_opened, too_many_pixels, too_many_blocks, numbers_said}
 use Rattle.saving.proofs.numbers.read_numbers.Goals as goal
 

@@ -1,13 +1,8 @@
 -- `update::marks::change_pixel` meets its contract: nothing is written before every refusal is decided, and what goes up is the set with one pixel more or less.
-use Prim.Native.Nat.{◌≤◌}
 use native.Mathlib.Omega.{arith}
 use mathlib.Core.Path.{◌≡◌, refl}
 use mathlib.Core.Bool.{Bool, true, false, not, beq}
-use lib.ListN.{length}
-use borrow.Author.Rules.{rules}
-use borrow.Author.Tests.{not-true, not-false}
 use Rattle.pktree.proofs.Absurd.{zero_is_not_one}
-use Rattle.measures.proofs.Usable.{layout_fits}
 use Rattle.update.proofs.ChangeEnds.{LocatedAt, never_located, already_so, disallowed, at_most_one, can_renumber, can_propagate, CarriedUp, carried_up}
 use Rattle.update.proofs.marks.change_pixel.Goals as goal
 use Rattle.update.proofs.marks.change_pixel.Goals.{After-locate-located, After-propagate}

@@ -1,8 +1,7 @@
 -- `update::marks::clear` meets its contract: a change by one pixel that goes, allowed where one is counted.
-use borrow.Author.Rules.{rules}
 use borrow.Author.Tests.{ltb-true}
 use Rattle.update.specs.Changed.{goes}
-use Rattle.update.proofs.MarkAndClear.{pixels_read, pixels_there, cleared, not_marked, uncounted, damaged}
+use Rattle.update.proofs.MarkAndClear.{pixels_read, cleared, not_marked, uncounted, damaged}
 use Rattle.update.proofs.marks.clear.Goals as goal
 
 pub returns-in-Changed : goal.returns-in-Changed

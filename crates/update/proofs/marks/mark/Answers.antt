@@ -1,8 +1,7 @@
 -- `update::marks::mark` meets its contract: a change by one pixel that comes, allowed where there is room.
-use borrow.Author.Rules.{rules}
 use borrow.Author.Tests.{ltb-true}
 use Rattle.update.specs.Changed.{comes}
-use Rattle.update.proofs.MarkAndClear.{pixels_read, pixels_there, marked, already_marked, full, damaged}
+use Rattle.update.proofs.MarkAndClear.{pixels_read, marked, already_marked, full, damaged}
 use Rattle.update.proofs.marks.mark.Goals as goal
 
 pub returns-in-Changed : goal.returns-in-Changed
