@@ -85,9 +85,9 @@ module _ (bytes : List ℕ) {before made : List ℕ} {a : Answer} {order k r : �
       }
 
   -- it was made, and loaded into
-  module _ {after : List ℕ} {b : Answer} (Made-so : r ≡ 0) (loads : LoadMeets made after bytes b) where
+  module _ {after : List ℕ} {b : Answer} (made_so : r ≡ 0) (loads : LoadMeets made after bytes b) where
     done : a.refusal ≡ 0
-    done = sym number ∙ Made-so
+    done = sym number ∙ made_so
 
     usable : UsableStore made
     usable = (accepted_makes makes done).holds.sound.usable
