@@ -43,7 +43,7 @@ def folder(name):
 
 
 def built(name):
-    """A library as it stands built."""
+    """Where a library of this repository is built."""
     return f"{folder(name)}/out/rlib/{name}.rlib"
 
 
