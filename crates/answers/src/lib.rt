@@ -3,11 +3,14 @@
 
 ghost use Rattle.std.specs.Prelude.{◌≡◌};
 ghost use Rattle.answers.specs.Answer.{answer, number_of};
+ghost use Rattle.answers.specs.declared.Refusal.TheVariants as refusals;
+
+use store::Damaged;
 
 pub mod judging;
 
-// 01 "Who is refused, and how", and 02: the refusals, in the order of their numbers, 1 to 15.
-#[derive(Clone, Copy)]
+// 01 "Who is refused, and how", and 02: the refusals, in the order of their numbers, 1 to 15. 9 comes with the length that is needed.
+#[derive(Clone, Copy, Debug, PartialEq, Eq)]
 pub enum Refusal {
     BeyondLimits,
     StoreTooShort,
@@ -17,7 +20,7 @@ pub enum Refusal {
     Full,
     NotMarked,
     WindowReversed,
-    OutputTooShort,
+    OutputTooShort { needed: usize },
     NotAnImage,
     ImageUnlike,
     ImageDamaged,
@@ -27,46 +30,47 @@ pub enum Refusal {
 }
 
 // 01's number of a refusal.
-pub fn number_of(refusal: Refusal) -> u32
-    ensures { result ≡ number_of refusal }
-{
-    match refusal {
-        Refusal::BeyondLimits => 1,
-        Refusal::StoreTooShort => 2,
-        Refusal::NoRegister => 3,
-        Refusal::OffPanel => 4,
-        Refusal::AlreadyMarked => 5,
-        Refusal::Full => 6,
-        Refusal::NotMarked => 7,
-        Refusal::WindowReversed => 8,
-        Refusal::OutputTooShort => 9,
-        Refusal::NotAnImage => 10,
-        Refusal::ImageUnlike => 11,
-        Refusal::ImageDamaged => 12,
-        Refusal::StoreDamaged => 13,
-        Refusal::NotAscending => 14,
-        Refusal::NoBudget => 15,
+impl From<Refusal> for u32 {
+    ghost from_gives = { λ refusal number. number ≡ number_of refusal };
+
+    fn from(refusal: Refusal) -> u32 {
+        match refusal {
+            Refusal::BeyondLimits => 1,
+            Refusal::StoreTooShort => 2,
+            Refusal::NoRegister => 3,
+            Refusal::OffPanel => 4,
+            Refusal::AlreadyMarked => 5,
+            Refusal::Full => 6,
+            Refusal::NotMarked => 7,
+            Refusal::WindowReversed => 8,
+            Refusal::OutputTooShort { .. } => 9,
+            Refusal::NotAnImage => 10,
+            Refusal::ImageUnlike => 11,
+            Refusal::ImageDamaged => 12,
+            Refusal::StoreDamaged => 13,
+            Refusal::NotAscending => 14,
+            Refusal::NoBudget => 15,
+        }
     }
 }
 
-// What make, mark, clear, load and fill answer: done, or why not.
-#[derive(Clone, Copy)]
-pub enum Outcome {
-    Done,
-    Refused(Refusal),
-}
+// Damage that a walk meets is refused.
+impl From<Damaged> for Refusal {
+    ghost from_gives = { λ _ refusal. refusal ≡ refusals.StoreDamaged };
 
-// 01's number of an outcome, 0 where the call was accepted.
-pub fn refusal_of(outcome: Outcome) -> u32
-    ensures { result ≡ (answer outcome).refusal }
-{
-    match outcome {
-        Outcome::Done => 0,
-        Outcome::Refused(refusal) => number_of(refusal),
+    fn from(_damaged: Damaged) -> Refusal {
+        Refusal::StoreDamaged
     }
 }
 
-// Whether a pixel is marked, the blocks opened, and 02, P8: the level and code of the smallest block that contains it.
+// 01's number of what make, mark, clear, load and fill answer, 0 where the call was accepted.
+pub fn refusal_of(done: Result<(), Refusal>) -> u32
+    ensures { result ≡ (answer done).refusal }
+{
+    done.err().map_or(0, u32::from)
+}
+
+// What ask answers: whether a pixel is marked, the blocks opened, and 02, P8: the level and code of the smallest block that contains it.
 #[derive(Clone, Copy)]
 pub struct Place {
     pub marked: bool,
@@ -75,59 +79,26 @@ pub struct Place {
     pub code: u32,
 }
 
-// What ask answers.
+// What count and list answer: the pixels found, and the blocks opened.
 #[derive(Clone, Copy)]
-pub enum Asking {
-    Answered(Place),
-    Refused(Refusal),
+pub struct Found {
+    pub found: u32,
+    pub opened: u32,
 }
 
-// What count answers.
+// The pixel that a search found, and its squared distance.
 #[derive(Clone, Copy)]
-pub enum Counting {
-    Found { found: u32, opened: u32 },
-    Refused(Refusal),
+pub struct NearPixel {
+    pub code: u32,
+    pub distance: u64,
 }
 
-// 02, P5: the nearest pixel found, if any, its squared distance, the blocks opened, the squared distance below which no marked pixel can be,
+// What nearest answers, 02, P5: the nearest pixel found, if any, the blocks opened, the squared distance below which no marked pixel can be,
 // and whether the search is complete.
 #[derive(Clone, Copy)]
 pub struct Nearest {
-    pub found: bool,
-    pub code: u32,
-    pub distance: u64,
+    pub pixel: Option<NearPixel>,
     pub opened: u32,
     pub limit: u64,
     pub complete: bool,
-}
-
-// What nearest answers.
-#[derive(Clone, Copy)]
-pub enum Searching {
-    Ended(Nearest),
-    Refused(Refusal),
-}
-
-// What list answers; `Short` is refusal 9, with the words needed.
-#[derive(Clone, Copy)]
-pub enum Listing {
-    Found { found: u32, opened: u32 },
-    Short(u32),
-    Refused(Refusal),
-}
-
-// What save answers; `Short` is refusal 9, with the bytes needed.
-#[derive(Clone, Copy)]
-pub enum Saving {
-    Saved(usize),
-    Short(usize),
-    Refused(Refusal),
-}
-
-// What check answers.
-#[derive(Clone, Copy)]
-pub enum Checking {
-    Sound,
-    Unsound,
-    Refused(Refusal),
 }

@@ -1,5 +1,5 @@
 -- Where a search on a sound store is when the least entry is taken out: the block to open next, and that the answer is still the same.
-use Prim.Native.Nat.{ℕ, ◌+◌, ◌-◌, ◌≤◌}
+use Prim.Native.Nat.{ℕ, ◌+◌, ◌≤◌}
 use native.Mathlib.Omega.{arith}
 use mathlib.Core.Path.{◌≡◌, refl, sym, subst}
 use mathlib.Core.List.{List, [], ◌∷◌, ◌++◌}
@@ -17,9 +17,9 @@ use Rattle.searching.proofs.OpenedPixels.{held_by}
 use Rattle.searching.proofs.Pruned.{pruned}
 use Rattle.searching.proofs.Spread.{Spread}
 use Rattle.frontier.specs.declared.Entry.{Entry}
-use Rattle.frontier.specs.Entries.{queued, Taken}
+use Rattle.frontier.specs.Entries.{Taken}
 use Rattle.meeting.specs.declared.best.Best.{Best}
-use Rattle.meeting.specs.declared.distance.Place.{Place}
+use Rattle.meeting.specs.declared.place.Place.{Place}
 use Rattle.meeting.specs.Place.{place_code}
 use Rattle.meeting.specs.Best.{best_of}
 use Rattle.meeting.specs.Matching.{EntryOf, Matches}
@@ -59,14 +59,14 @@ module _ {words set : List ℕ} (holds : Holds words set) (layout : Layout) (pla
   abbrev valid : Valid panel
   valid = holds.sound.usable.valid.panel
 
-  pub record Aimed (keys tags : List ℕ) (met opened : ℕ) (best : Best) (e : Entry) : Type 0 where
+  pub record Aimed (queue : List Entry) (opened : ℕ) (best : Best) (e : Entry) : Type 0 where
     pub head : BlockOf
     pub rest : List BlockOf
     pub done : List BlockOf
     pub is : EntryOf layout.width layout.slots words P (next P head rest) e
     pub entries : List Entry
     pub matched : Matches layout.width layout.slots words P (others P head rest) entries
-    pub same : (number : Entry → ℕ) → total number (queued keys tags met) ≡ total number entries
+    pub same : (number : Entry → ℕ) → total number queue ≡ total number entries
     pub spread : Spread panel set valid P (head ∷ rest)
     pub best_is : best ≡ best_of P (found P (search (head ∷ rest) done))
     pub opened_is : length done ≡ opened
@@ -75,19 +75,18 @@ module _ {words set : List ℕ} (holds : Holds words set) (layout : Layout) (pla
     pub answers : nearest_by P (pruned P left (search (head ∷ rest) done)) ≡ nearest_in (held_tree words set) P budget
     pub counted : length done + total held_by (head ∷ rest) ≤ layout.slots
 
-  pub aim : {keys tags keys' tags' : List ℕ} {met opened : ℕ} {best : Best} {e : Entry} → Reached holds layout place budget keys tags met opened best → Taken keys tags keys' tags' met e
-      → Aimed keys' tags' (met - 1) opened best e
-  aim {keys} {tags} {keys'} {tags'} {met} {opened} {best} {e} r taken =
+  pub aim : {before after : List Entry} {opened : ℕ} {best : Best} {e : Entry} → Reached holds layout place budget before opened best → Taken before after e → Aimed after opened best e
+  aim {before} {after} {opened} {best} {e} r taken =
       go r.state.met r.state.opened r.entries r.matched r.same r.spread r.best_is r.opened_is r.answers r.counted
     where
-      go : (l done : List BlockOf) (q : List Entry) → Matches layout.width layout.slots words P l q → ((number : Entry → ℕ) → total number (queued keys tags met) ≡ total number q)
+      go : (l done : List BlockOf) (q : List Entry) → Matches layout.width layout.slots words P l q → ((number : Entry → ℕ) → total number before ≡ total number q)
           → Spread panel set valid P l → best ≡ best_of P (found P (search l done)) → length done ≡ opened
           → nearest_by P (pruned P r.left (search l done)) ≡ nearest_in (held_tree words set) P budget → length done + total held_by l ≤ layout.slots
-          → Aimed keys' tags' (met - 1) opened best e
+          → Aimed after opened best e
       go [] done q m same spread b o a c = absurd (omega (arith, same (λ f. 1), taken.one_less (λ f. 1), no_entries layout.width layout.slots words P q m))
       go (h ∷ l) done [] m same spread b o a c = absurd m
       go (h ∷ l) done (x ∷ q) m same spread b o a c =
-          let of : TakenFrom x q (queued keys tags met) (queued keys' tags' (met - 1)) e = record {
+          let of : TakenFrom x q before after e = record {
             apart = keys_apart layout.width layout.slots words P (h ∷ l) (x ∷ q) m spread.apart;
             same = same;
             taken = taken.one_less;

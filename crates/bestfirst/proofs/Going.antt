@@ -1,10 +1,12 @@
 -- The loop of a search on any words: where it is for each set that they may hold; and where the root cannot be opened, that it has not been.
-use Prim.Native.Nat.{ℕ, ◌+◌, ◌-◌, ◌*◌, ◌/◌, ◌%◌, ◌≤◌, ◌<◌}
+use Rattle.std.specs.Prelude.{Ok, Err}
+use Prim.Native.Nat.{ℕ, ◌+◌, ◌*◌, ◌/◌, ◌%◌, ◌≤◌, ◌<◌}
 use native.Mathlib.Omega.{arith}
 use mathlib.Core.Path.{◌≡◌, refl, ap, sym, subst, ◌∙◌}
 use mathlib.Core.Bool.{Bool, true, false}
 use mathlib.Core.List.{List, [], ◌∷◌}
-use lib.ListN.{get_or}
+use lib.ListN.{length}
+use Rattle.pktree.specs.Lists.{total}
 use Rattle.pktree.specs.PixelSet.{member}
 use Rattle.pktree.specs.Elements.{empty, block, gather, unlabelled}
 use Rattle.pktree.proofs.Forests.{block_count}
@@ -14,6 +16,7 @@ use Rattle.measures.specs.Layout.{LaidOut}
 use Rattle.measures.specs.Sizes.{panel_of, sizes_of}
 use Rattle.measures.proofs.Usable.{layout_said}
 use Rattle.elements.specs.Element.{tag_slots}
+use Rattle.store.specs.declared.Damaged.{Damaged}
 use Rattle.store.specs.Opening.{RootCannotOpen}
 use Rattle.store.specs.Sound.{Holds}
 use Rattle.store.proofs.BlockView.{BlockView, root_view}
@@ -25,21 +28,25 @@ use Rattle.searching.specs.Nearest.{nearest_in}
 use Rattle.searching.proofs.Pruned.{pruned_nearest}
 use Rattle.searching.proofs.Spread.{spread_start}
 use Rattle.frontier.specs.declared.Entry.{Entry}
-use Rattle.frontier.specs.Entries.{entry, Pushed, Taken}
+use Rattle.frontier.specs.Entries.{entry, Taken}
 use Rattle.answers.specs.declared.Nearest.{Nearest}
 use Rattle.meeting.specs.declared.best.Best.{Best}
-use Rattle.meeting.specs.declared.distance.Place.{Place}
+use Rattle.meeting.specs.declared.place.Place.{Place}
 use Rattle.meeting.specs.Place.{place_code, beyond, ToBlock}
 use Rattle.meeting.specs.Matching.{key_codes, tag_of}
 use Rattle.meeting.specs.Meeting.{KeyIs, TagIs}
-use Rattle.bestfirst.specs.declared.Turn.TheVariants as turn
 use Rattle.bestfirst.specs.declared.Searched.{Searched}
 use Rattle.bestfirst.specs.declared.Searched.TheVariants.{Known}
 use Rattle.bestfirst.specs.Turns.{distance_in, Shut, TurnMeets}
 use Rattle.bestfirst.specs.UnderWay.{Reached, AtStart, Going, no_best}
-use Rattle.bestfirst.specs.Searches.{values, DistanceShown, Stated, Closes}
+use Rattle.answers.specs.Answer.{values_of}
+use Rattle.bestfirst.specs.Searches.{DistanceShown, Stated, Closes}
 use Rattle.bestfirst.proofs.Aimed.{Aimed, aim}
 use Rattle.bestfirst.proofs.SearchSteps.{values_complete, values_spent, values_over, few_opened, go_on}
+
+nothing_left : (l : List Entry) → total (λ e. 1) l ≡ 0 → l ≡ []
+nothing_left [] h = refl
+nothing_left (e ∷ l) h = absurd (omega arith)
 
 -- the root's entry was taken out
 pub record RootTaken (order opened : ℕ) (best : Best) (e : Entry) : Type 0 where
@@ -49,20 +56,20 @@ pub record RootTaken (order opened : ℕ) (best : Best) (e : Entry) : Type 0 whe
   pub code_is : e.key % key_codes ≡ 0
   pub tag_is : e.tag ≡ tag_of 0 order
 
-pub record Aiming (words : List ℕ) (layout : Layout) (place : Place) (budget : ℕ) (keys tags : List ℕ) (met opened : ℕ) (best : Best) (e : Entry) : Type 0 where
-  pub aimed : (set : List ℕ) (holds : Holds words set) → Aimed holds layout place budget keys tags met opened best e
+pub record Aiming (words : List ℕ) (layout : Layout) (place : Place) (budget : ℕ) (queue : List Entry) (opened : ℕ) (best : Best) (e : Entry) : Type 0 where
+  pub aimed : (set : List ℕ) (holds : Holds words set) → Aimed holds layout place budget queue opened best e
   pub first : RootCannotOpen words → RootTaken (sizes_of words).order opened best e
 
 -- the values are known, and right
 pub record Ended (words : List ℕ) (layout : Layout) (place : Place) (budget : ℕ) (r : Searched) : Type 0 where
   pub nearest : Nearest
   pub is : r ≡ Known nearest
-  pub right : (set : List ℕ) → Holds words set → nearest ≡ values (nearest_in (held_tree words set) (place_code place) budget)
+  pub right : (set : List ℕ) → Holds words set → values_of nearest ≡ nearest_in (held_tree words set) (place_code place) budget
   pub closes : Closes words layout.slots budget nearest.opened
 
 module _ {words : List ℕ} {layout : Layout} {place : Place} {budget : ℕ} where
   ended : {opened limit : ℕ} {complete : Bool} {best : Best} {r : Searched} (n : Stated best opened limit complete r)
-      → ((set : List ℕ) → Holds words set → n.nearest ≡ values (nearest_in (held_tree words set) (place_code place) budget))
+      → ((set : List ℕ) → Holds words set → values_of n.nearest ≡ nearest_in (held_tree words set) (place_code place) budget)
       → opened ≤ budget → opened ≤ layout.slots → (1 ≤ budget → RootCannotOpen words → ⊥) → Ended words layout place budget r
   ended n right spent few shut =
       record {
@@ -72,9 +79,9 @@ module _ {words : List ℕ} {layout : Layout} {place : Place} {budget : ℕ} whe
         closes = record { to_budget = omega (arith, n.opened_is, spent); to_slots = omega (arith, n.opened_is, few); root_opened = shut };
       }
 
-  module _ {order : ℕ} {keys tags keys' tags' : List ℕ} {far key tag : ℕ} (said : order ≡ (sizes_of words).order) (laid : LaidOut (sizes_of words) layout) (to : ToBlock place order 0 far)
-      (k : KeyIs far 0 key) (t : TagIs 0 order tag) (pushed : Pushed keys tags keys' tags' 0 key tag) where
-    start : (set : List ℕ) (holds : Holds words set) → Reached holds layout place budget keys' tags' 1 0 no_best
+  module _ {order far key tag : ℕ} (said : order ≡ (sizes_of words).order) (laid : LaidOut (sizes_of words) layout) (to : ToBlock place order 0 far)
+      (k : KeyIs far 0 key) (t : TagIs 0 order tag) where
+    start : (set : List ℕ) (holds : Holds words set) → Reached holds layout place budget (entry key tag ∷ []) 0 no_best
     start set holds =
         let (es, v) = sound_view words holds.placed holds.sound in
         let root = root_view words holds.placed es holds.sound v in
@@ -98,7 +105,7 @@ module _ {words : List ℕ} {layout : Layout} {place : Place} {budget : ℕ} whe
             },
             tt,
           );
-          same = λ number. pushed.one_more number;
+          same = λ number. refl;
           spread = spread_start (panel_of (sizes_of words)) set holds.sound.usable.valid.panel (place_code place);
           best_is = refl;
           opened_is = refl;
@@ -108,7 +115,7 @@ module _ {words : List ℕ} {layout : Layout} {place : Place} {budget : ℕ} whe
           counted = omega (arith, v.few, block_count_unlabelled es, ap block_count inside, ap (λ (l : Layout). l.slots) wide);
         }
 
-    pub going_start : Going words layout place budget keys' tags' 1 0 no_best
+    pub going_start : Going words layout place budget (entry key tag ∷ []) 0 no_best
     going_start =
         record {
           reached = start;
@@ -116,25 +123,27 @@ module _ {words : List ℕ} {layout : Layout} {place : Place} {budget : ℕ} whe
               record {
                 opened_none = refl;
                 none_found = refl;
-                one_met = refl;
-                below = omega (arith, pushed.one_more (λ e. e.key), k.is, to.below);
-                code_is = omega (arith, pushed.one_more (λ e. e.key), k.is);
-                tag_is = omega (arith, pushed.one_more (λ e. e.tag), t.is, said);
+                root = entry key tag;
+                alone = refl;
+                below = omega (arith, k.is, to.below);
+                code_is = omega (arith, k.is);
+                tag_is = omega (arith, t.is, said);
               };
         }
 
-  pub going_next : {keys tags keys' tags' : List ℕ} {met opened : ℕ} {best : Best} {e : Entry} → Going words layout place budget keys tags met opened best
-      → Taken keys tags keys' tags' met e → Aiming words layout place budget keys' tags' (met - 1) opened best e
-  going_next {keys} {tags} {keys'} {tags'} {met} {opened} {best} {e} g taken =
+  pub going_next : {before after : List Entry} {opened : ℕ} {best : Best} {e : Entry} → Going words layout place budget before opened best → Taken before after e
+      → Aiming words layout place budget after opened best e
+  going_next {before} {after} {opened} {best} {e} g taken =
       record {
         aimed = λ set holds. aim holds layout place budget (g.reached set holds) taken;
-        first = λ shut. let s = g.first shut in only s (subst (λ (n : ℕ). Taken keys tags keys' tags' n e) s.one_met taken);
+        first = λ shut. let s = g.first shut in only s (subst (λ (q : List Entry). Taken q after e) s.alone taken);
       }
     where
-      only : AtStart (sizes_of words).order keys tags met opened best → Taken keys tags keys' tags' 1 e → RootTaken (sizes_of words).order opened best e
+      only : (s : AtStart (sizes_of words).order before opened best) → Taken (s.root ∷ []) after e → RootTaken (sizes_of words).order opened best e
       only s one =
-          let k : get_or keys 0 0 ≡ e.key = omega (arith, one.one_less (λ e. e.key)) in
-          let t : get_or tags 0 0 ≡ e.tag = omega (arith, one.one_less (λ e. e.tag)) in
+          let none = nothing_left after (omega (arith, one.one_less (λ e. 1))) in
+          let k : s.root.key ≡ e.key = omega (arith, one.one_less (λ e. e.key), ap (total (λ (e : Entry). e.key)) none) in
+          let t : s.root.tag ≡ e.tag = omega (arith, one.one_less (λ e. e.tag), ap (total (λ (e : Entry). e.tag)) none) in
           record {
             opened_none = s.opened_none;
             none_found = s.none_found;
@@ -143,7 +152,7 @@ module _ {words : List ℕ} {layout : Layout} {place : Place} {budget : ℕ} whe
             tag_is = omega (arith, t, s.tag_is);
           }
 
-  module _ {keys tags : List ℕ} {met opened : ℕ} {best : Best} {e : Entry} (a : Aiming words layout place budget keys tags met opened best e) where
+  module _ {queue : List Entry} {opened : ℕ} {best : Best} {e : Entry} (a : Aiming words layout place budget queue opened best e) where
     pub ends_complete : {r : Searched} → opened ≤ budget → opened ≤ layout.slots → best.distance < distance_in e → Stated best opened best.distance true r
         → Ended words layout place budget r
     ends_complete spent few l n =
@@ -164,19 +173,18 @@ module _ {words : List ℕ} {layout : Layout} {place : Place} {budget : ℕ} whe
           let code : e.key % key_codes * 4 ≡ 0 = omega (arith, s.code_is) in
           rw (slot, level, code, layout_said words refl laid) shut
 
-      pub goes_further : {keys' tags' : List ℕ} {best' : Best} {n : ℕ} → opened < budget → distance_in e ≤ best.distance
-          → TurnMeets words layout place e opened best keys tags keys' tags' met (turn.Opened best' n) → Going words layout place budget keys' tags' n (opened + 1) best'
+      pub goes_further : {after : List Entry} {best' : Best} → opened < budget → distance_in e ≤ best.distance
+          → TurnMeets words layout place e opened best queue after (Ok best') → Going words layout place budget after (opened + 1) best'
       goes_further h l t =
           record {
-            reached = λ set holds. go_on holds layout place budget (a.aimed set holds) h l t.case.5;
-            first = λ shut. absurd (t.case.4 (root_shut shut));
+            reached = λ set holds. go_on holds layout place budget (a.aimed set holds) h l t.case.2;
+            first = λ shut. absurd (t.case.1 (root_shut shut));
           }
 
-    pub not_damaged : {keys' tags' : List ℕ} → TurnMeets words layout place e opened best keys tags keys' tags' met turn.Damaged → (set : List ℕ) → Holds words set → ⊥
+    pub not_damaged : {after : List Entry} {d : Damaged} → TurnMeets words layout place e opened best queue after (Err d) → (set : List ℕ) → Holds words set → ⊥
     not_damaged t set holds = let at = a.aimed set holds in t.case _ at.is (few_opened holds layout place budget at)
 
-  pub ends_over : {keys tags : List ℕ} {met opened limit : ℕ} {best : Best} {r : Searched} → opened ≤ budget → opened ≤ layout.slots → met ≤ 0
-      → Going words layout place budget keys tags met opened best → DistanceShown best.distance limit → Stated best opened limit true r → Ended words layout place budget r
-  ends_over {keys} {tags} {met} {opened} {limit} {best} spent few h g d n =
-      let none : Going words layout place budget keys tags 0 opened best = subst (λ (n : ℕ). Going words layout place budget keys tags n opened best) (omega arith) g in
-      ended n (λ set holds. values_over holds layout place budget (none.reached set holds) d n) spent few (λ b shut. absurd (omega (arith, (none.first shut).one_met)))
+  pub ends_over : {queue : List Entry} {opened limit : ℕ} {best : Best} {r : Searched} → opened ≤ budget → opened ≤ layout.slots → length queue ≤ 0
+      → Going words layout place budget queue opened best → DistanceShown best.distance limit → Stated best opened limit true r → Ended words layout place budget r
+  ends_over spent few h g d n =
+      ended n (λ set holds. values_over holds layout place budget h (g.reached set holds) d n) spent few (λ b shut. absurd (omega (arith, h, ap length (g.first shut).alone)))

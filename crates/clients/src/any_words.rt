@@ -9,83 +9,90 @@ ghost use Rattle.promises.proofs.AnyWords.{Leaves, Bounded, PlaceBounded, Search
 ghost use Rattle.answers.specs.Answer.{answer, ask_answer, search_answer, count_answer, list_answer, save_answer, check_answer};
 ghost use Rattle.clients.specs.Known.{OffEveryPanel, TooMany, LargestMade, OlderLeft, BytesNeeded, FrontSaved, SavedWhole, WholeSearch, ElementAsked};
 
-use answers::{Asking, Checking, Counting, Listing, Outcome, Saving, Searching};
+use answers::{Found, Nearest, Place, Refusal};
 
-pub fn make(store: &mut [u32], m: u32, k: u32, most: u32) -> Outcome
+pub fn make(store: &mut [u32], m: u32, k: u32, most: u32) -> Result<(), Refusal>
     ensures { MakeRefusals store.old m k most (answer result) × Leaves (asked m k most) (effect (answer result) store.old store.new) }
 {
     register::make(store, m, k, most)
 }
 
-pub fn mark(store: &mut [u32], x: u32, y: u32) -> Outcome
+pub fn mark(store: &mut [u32], x: u32, y: u32) -> Result<(), Refusal>
     ensures { PixelRefusals store.old x y (answer result) × Leaves (sizes_of store.old) (effect (answer result) store.old store.new) }
 {
     register::mark(store, x, y)
 }
 
-pub fn clear(store: &mut [u32], x: u32, y: u32) -> Outcome
+pub fn clear(store: &mut [u32], x: u32, y: u32) -> Result<(), Refusal>
     ensures { PixelRefusals store.old x y (answer result) × Leaves (sizes_of store.old) (effect (answer result) store.old store.new) }
 {
     register::clear(store, x, y)
 }
 
-pub fn load(store: &mut [u32], image: &[u8]) -> Outcome
+pub fn load(store: &mut [u32], image: &[u8]) -> Result<(), Refusal>
     ensures { LoadRefusals store.old image.now (answer result) × Leaves (sizes_of store.old) (effect (answer result) store.old store.new) }
 {
     register::load(store, image)
 }
 
-pub fn fill(store: &mut [u32], codes: &[u32]) -> Outcome
+pub fn fill(store: &mut [u32], codes: &[u32]) -> Result<(), Refusal>
     ensures { FillRefusals store.old codes.now (answer result) × Leaves (sizes_of store.old) (effect (answer result) store.old store.new) }
 {
     register::fill(store, codes)
 }
 
-pub fn ask(store: &[u32], x: u32, y: u32) -> Asking
+pub fn ask(store: &[u32], x: u32, y: u32) -> Result<Place, Refusal>
     ensures { PixelRefusals store.now x y (ask_answer result) × PlaceBounded (sizes_of store.now).order (ask_answer result) }
 {
     register::ask(store, x, y)
 }
 
 // 02, P8: the law of the block told, on whatever set the store holds.
-pub fn ask_element(store: &[u32], x: u32, y: u32) -> Asking
+pub fn ask_element(store: &[u32], x: u32, y: u32) -> Result<Place, Refusal>
     ensures { ElementAsked store.now x y (ask_answer result) }
 {
     register::ask(store, x, y)
 }
 
-pub fn nearest(store: &[u32], x: u32, y: u32, budget: u32) -> Searching
+pub fn nearest(store: &[u32], x: u32, y: u32, budget: u32) -> Result<Nearest, Refusal>
     ensures { NearestRefusals store.now x y budget (search_answer result) × SearchBounded (min budget (slots_in store.now)) (search_answer result) }
 {
     register::nearest(store, x, y, budget)
 }
 
 // 02, P5: a budget that no register can spend: the nearest of all marked pixels, or none is marked.
-pub fn nearest_of_all(store: &[u32], x: u32, y: u32) -> Searching
+pub fn nearest_of_all(store: &[u32], x: u32, y: u32) -> Result<Nearest, Refusal>
     ensures { WholeSearch store.now x y (search_answer result) }
 {
     register::nearest(store, x, y, 0xFFFFFFFF)
 }
 
-pub fn count(store: &[u32], x0: u32, y0: u32, x1: u32, y1: u32) -> Counting
+pub fn count(store: &[u32], x0: u32, y0: u32, x1: u32, y1: u32) -> Result<Found, Refusal>
     ensures { WindowRefusals store.now (window_given x0 y0 x1 y1) (count_answer result) × Bounded (sizes_of store.now).most (slots_in store.now) (count_answer result) }
 {
     register::count(store, x0, y0, x1, y1)
 }
 
-pub fn list(store: &[u32], x0: u32, y0: u32, x1: u32, y1: u32, output: &mut [u32]) -> Listing
+pub fn list(
+    store: &[u32],
+    x0: u32,
+    y0: u32,
+    x1: u32,
+    y1: u32,
+    output: &mut [u32],
+) -> Result<Found, Refusal>
     ensures { WindowRefusals store.now (window_given x0 y0 x1 y1) (list_answer result) × OutputLeft (sizes_of store.now).most (slots_in store.now) (effect (list_answer result) output.old output.new) }
 {
     register::list(store, x0, y0, x1, y1, output)
 }
 
-pub fn save(store: &[u32], output: &mut [u8]) -> Saving
+pub fn save(store: &[u32], output: &mut [u8]) -> Result<usize, Refusal>
     ensures { (((save_answer result).refusal ≡ 3) ↔ (UsableStore store.now → ⊥)) × OutputLeft (most_bytes store.now) 0 (effect (save_answer result) output.old output.new) }
 {
     register::save(store, output)
 }
 
-pub fn check(store: &[u32]) -> Checking
+pub fn check(store: &[u32]) -> Result<bool, Refusal>
     ensures { CheckAnswers store.now (check_answer result) }
 {
     register::check(store)
@@ -119,13 +126,13 @@ pub fn mark_older(store: &mut [u32], x: u32, y: u32) -> u32
 }
 
 // The length that save returns, or needs.
-fn length_of(saving: Saving) -> usize
-    ensures { result ≡ (save_answer saving).first }
+fn length_of(saved: Result<usize, Refusal>) -> usize
+    ensures { result ≡ (save_answer saved).first }
 {
-    match saving {
-        Saving::Saved(length) => length,
-        Saving::Short(needed) => needed,
-        Saving::Refused(_) => 0,
+    match saved {
+        Ok(length) => length,
+        Err(Refusal::OutputTooShort { needed }) => needed,
+        Err(_) => 0,
     }
 }
 

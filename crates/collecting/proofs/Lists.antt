@@ -5,6 +5,7 @@ use Rattle.pktree.specs.Window.{Ordered, opened_by_window}
 use Rattle.windows.specs.declared.Corners.{Corners}
 use Rattle.windows.specs.Corners.{window_between, PixelTested}
 use Rattle.measures.specs.Sizes.{largest_most}
+use Rattle.query.specs.declared.walk.Sum.{Sum}
 use Rattle.query.specs.Counting.{Findings, of_elements}
 use Rattle.query.proofs.Opens.{list_opens}
 use Rattle.query.proofs.Findings.{Additive, room_first, room_second, count_walk}
@@ -32,8 +33,8 @@ pub list_walk : {findings : Findings} {most slots : ℕ} → Additive findings �
 list_walk add =
     record { none = λ s. record { counts = (count_walk add).none (s.1, s.2, s.3); wrote = λ room fits. rw add.no_codes (sym (written_none s.0 s.1)) }; join = lists_join add }
 
-pub all_are : {after o : List ℕ} {n m x p q r : ℕ} → o ≡ after → p ≡ n → q ≡ m → r ≡ x → ◌≡◌ {A = List ℕ × ℕ × ℕ × ℕ} (o, p, q, r) (after, n, m, x)
-all_are e f g h = rw (e, f, g, h)
+pub all_are : {after o : List ℕ} {sum s : Sum} → o ≡ after → s ≡ sum → ◌≡◌ {A = List ℕ × ℕ × ℕ × ℕ} (o, s.found, s.opened, s.tested) (after, sum.found, sum.opened, sum.tested)
+all_are e f = rw (e, f)
 
 -- one code
 module _ {code at : ℕ} {before : List ℕ} where
@@ -43,7 +44,7 @@ module _ {code at : ℕ} {before : List ℕ} where
   pub code_written : {i r : ℕ} → i ≡ at → i < length before → r ≡ (at + 1) % 2 ^ 32 → CodeWritten code at before (set before i code) r
   code_written is room sum = record { counted = λ few. omega (arith, sum); long = length-set before _ code; wrote = λ fits. rw is (written_one before at code (omega arith)) }
 
-pub code_added : {slots c n m r : ℕ} {before after : List ℕ} → CodeWritten c n before after r → Lists of_all largest_most slots (before, n, m, 0) (pixel c empty) (after, r, m, 0)
+pub code_added : {slots c n m x r : ℕ} {before after : List ℕ} → CodeWritten c n before after r → Lists of_all largest_most slots (before, n, m, x) (pixel c empty) (after, r, m, x)
 code_added w =
     record {
       counts = record { says = λ room. record { found_is = w.counted room.few_found; opened_is = omega arith; tested_is = omega arith } };

@@ -7,64 +7,49 @@ use mathlib.Core.Path.{◌≡◌, refl, ap, sym, ◌∙◌}
 use mathlib.Core.Bool.{Bool, true, false}
 use mathlib.Core.Logic.{inl, inr}
 use mathlib.Core.List.{List, [], ◌∷◌}
-use lib.ListN.{length, get_or, set, length-set}
+use lib.ListN.{length, set, length-set}
 use lib.Seq.{get_or-set_same, get_or-set_other}
 use Rattle.pktree.specs.Elements.{size}
-use Rattle.pktree.proofs.Absurd.{zero_is_not_one}
 use Rattle.measures.specs.Sizes.{sizes_of, slot_count, slot_width}
-use Rattle.measures.specs.Layout.{layout_of, LayoutFits, most_elements}
+use Rattle.measures.specs.Layout.{LayoutFits, most_elements}
 use Rattle.measures.specs.Slot.{slot_part, count_word}
 use Rattle.store.specs.Opening.{HeaderSays, CannotOpen}
 use Rattle.measures.specs.declared.sizes.Layout.{Layout}
 use Rattle.store.specs.Placed.{Placed}
-use Rattle.store.specs.Sound.{Sound}
 use Rattle.store.proofs.OpenedSlot as opened
 use Rattle.store.proofs.SoundView.{sound_view}
 use Rattle.store.proofs.BlockView.{BlockView, ChildView, elements_lie, child_view}
 use Rattle.descent.specs.Way.{Frame, plug, path_length}
-use Rattle.descent.specs.Located.{LookedHere, InnerBlock, CanEnter, PathNames, LocateMeets}
-use Rattle.descent.specs.declared.Located.{Located}
+use Rattle.descent.specs.Located.{LookedHere, InnerBlock, CanEnter, PathNames, SoundArguments, NoSound, LocatedRight, nowhere, passed_at}
+use Rattle.descent.specs.declared.Passed.{Passed}
 use Rattle.measures.proofs.Usable.{slot_long}
 use Rattle.descent.proofs.Looking.{EntersBlock, looked_here, looked_inner}
 use Rattle.descent.proofs.Ways.{seen_on_way, names_more}
 
--- what `locate` is told of a sound store
-pub record SoundArguments (words : List ℕ) (placed : Placed) (layout : Layout) (order code : ℕ) : Type 0 where
-  pub sound : Sound words placed
-  pub layout_is : layout ≡ layout_of (sizes_of words)
-  pub order_is : order ≡ (sizes_of words).order
-  pub on_panel : code < 4 ^ order
-
--- what holds of no sound store
-abbrev pub NoSound : List ℕ → Layout → ℕ → ℕ → Type 0
-NoSound words layout order code = (placed : Placed) → SoundArguments words placed layout order code → ⊥
-
 -- on a sound store: the block that was reached holds the code
-pub record Reached (placed : Placed) (code : ℕ) (slots places : List ℕ) (depth slot level block : ℕ) : Type 0 where
+pub record Reached (placed : Placed) (code : ℕ) (passed : List Passed) (depth slot level block : ℕ) : Type 0 where
   pub way : List Frame
   pub es : Placed
   pub whole : placed ≡ plug way slot level block es
   pub deep : depth ≡ length way
-  pub names : PathNames slots places way
+  pub names : PathNames passed way
   pub holds : (block ≤ code) × (code < block + 4 ^ level)
 
 -- after each turn
-pub record Descended (words : List ℕ) (layout : Layout) (order code : ℕ) (slots places : List ℕ) (depth slot level block : ℕ) : Type 0 where
-  pub slots_long : length slots ≡ path_length
-  pub places_long : length places ≡ path_length
+pub record Descended (words : List ℕ) (layout : Layout) (order code : ℕ) (passed : List Passed) (depth slot level block : ℕ) : Type 0 where
+  pub long : length passed ≡ path_length
   pub slot_below : slot < layout.slots
   pub falls : depth + level ≤ order
-  pub path_below : (i : ℕ) → i < depth → get_or slots i 0 < layout.slots
-  pub reached : (placed : Placed) → SoundArguments words placed layout order code → Reached placed code slots places depth slot level block
+  pub path_below : (i : ℕ) → i < depth → (passed_at passed i).slot < layout.slots
+  pub reached : (placed : Placed) → SoundArguments words placed layout order code → Reached placed code passed depth slot level block
   -- only the root is not opened yet
   pub closed : CannotOpen layout.width words 0 order 0 → (slot ≡ 0) × (level ≡ order) × (block ≡ 0)
 
-pub at_root : (words : List ℕ) (layout : Layout) (order code : ℕ) (slots places : List ℕ) → LayoutFits layout words → length slots ≡ path_length → length places ≡ path_length
-    → Descended words layout order code slots places 0 0 order 0
-at_root words layout order code slots places fits hs hp =
+pub at_root : (words : List ℕ) (layout : Layout) (order code : ℕ) (passed : List Passed) → LayoutFits layout words → length passed ≡ path_length
+    → Descended words layout order code passed 0 0 order 0
+at_root words layout order code passed fits long =
     record {
-      slots_long = hs;
-      places_long = hp;
+      long = long;
       slot_below = fits.within.slots_from;
       falls = omega arith;
       path_below = λ i h. absurd (omega arith);
@@ -78,18 +63,8 @@ place_within : (part : List ℕ) (count code place : ℕ) (marked : Bool) → Lo
 place_within part count code place true h = omega (arith, h.within)
 place_within part count code place false h = h.place_of.within
 
--- a descent that says damaged stopped on no sound store
-pub stopped : {words slots places : List ℕ} {layout : Layout} {order code : ℕ} {r : Located} → r.damaged ≡ true → NoSound words layout order code
-    → LocateMeets words layout order code slots places r
-stopped e never =
-    record {
-      bounds = λ f. zero_is_not_one (cc);
-      sound = λ placed s l o p. absurd (never placed (record { sound = s; layout_is = l; order_is = o; on_panel = p }));
-      closed = λ h. e;
-    }
-
-module _ {words : List ℕ} {layout : Layout} {order code : ℕ} {slots places : List ℕ} {depth slot level block : ℕ} (fits : LayoutFits layout words)
-    (d : Descended words layout order code slots places depth slot level block) where
+module _ {words : List ℕ} {layout : Layout} {order code : ℕ} {passed : List Passed} {depth slot level block : ℕ} (fits : LayoutFits layout words)
+    (d : Descended words layout order code passed depth slot level block) where
   seen_here : (placed : Placed) (args : SoundArguments words placed layout order code)
       → BlockView (sizes_of words).k layout.width layout.slots words slot level block (d.reached placed args).es
   seen_here placed args =
@@ -127,31 +102,29 @@ module _ {words : List ℕ} {layout : Layout} {order code : ℕ} {slots places :
     few_elements = opened.few_elements fits d.slot_below header
 
     pub found_here : (place : ℕ) (marked : Bool) → 1 ≤ level → LookedHere (slot_part layout.width words slot) count code place marked
-        → LocateMeets words layout order code slots places (record { damaged = false; marked = marked; slot = slot; level = level; block = block; place = place; depth = depth })
+        → LocatedRight words layout order code passed
+        (record { marked = marked; block = record { slot = slot; level = level; code = block }; place = place; depth = depth })
     found_here place marked above h =
         record {
-          bounds = λ e. record {
+          bounds = record {
             slot_below = d.slot_below;
             level_from = above;
             deep = d.falls;
             path_below = d.path_below;
             place_below = le_trans (place_within (slot_part layout.width words slot) count code place marked h) few_elements;
           };
-          sound = λ placed s l o p.
-              let args : SoundArguments words placed layout order code = record { sound = s; layout_is = l; order_is = o; on_panel = p } in
-              let r = d.reached placed args in (
-                refl,
-                record {
-                  way = r.way;
-                  es = r.es;
-                  whole = r.whole;
-                  depth = r.deep;
-                  names = r.names;
-                  holds = r.holds;
-                  place = looked_here (seen_here placed args) r.holds.0 r.holds.1 place marked (rw (count_is placed args) at h);
-                },
-              );
-          closed = λ f. absurd (root_opened f);
+          sound = λ placed args.
+              let r = d.reached placed args in
+              record {
+                way = r.way;
+                es = r.es;
+                whole = r.whole;
+                depth = r.deep;
+                names = r.names;
+                holds = r.holds;
+                place = looked_here (seen_here placed args) r.holds.0 r.holds.1 place marked (rw (count_is placed args) at h);
+              };
+          opened = root_opened;
         }
 
     module _ {place s i c : ℕ} (inner : InnerBlock (slot_part layout.width words slot) count code place s i c) where
@@ -170,11 +143,11 @@ module _ {words : List ℕ} {layout : Layout} {order code : ℕ} {slots places :
       never_barred (inl h) placed args = omega (arith, (entered_view placed args).below)
       never_barred (inr h) placed args = omega (arith, (entered_view placed args).view.slot_below)
 
-      pub steps_down : order ≤ 16 → i < level → s < layout.slots → Descended words layout order code (set slots depth slot) (set places depth place) (depth + 1) s i c
+      pub steps_down : order ≤ 16 → i < level → s < layout.slots
+          → Descended words layout order code (set passed depth (record { slot = slot; place = place })) (depth + 1) s i c
       steps_down low less below =
           record {
-            slots_long = length-set slots depth slot ∙ d.slots_long;
-            places_long = length-set places depth place ∙ d.places_long;
+            long = length-set passed depth here ∙ d.long;
             slot_below = below;
             falls = omega (arith, d.falls);
             path_below = λ j h. path j h (dec_lt j depth);
@@ -187,12 +160,15 @@ module _ {words : List ℕ} {layout : Layout} {order code : ℕ} {slots places :
                   es = e.inside;
                   whole = r.whole ∙ ap (plug r.way slot level block) e.is;
                   deep = omega (arith, r.deep);
-                  names = names_more slots places f r.way depth place r.deep (omega (arith, d.falls, d.slots_long)) (omega (arith, d.falls, d.places_long)) e.place_is r.names;
+                  names = names_more passed f r.way depth place r.deep (omega (arith, d.falls, d.long)) e.place_is r.names;
                   holds = e.holds;
                 };
             closed = λ h. absurd (root_opened h);
           }
         where
-          path : (j : ℕ) → j < depth + 1 → Dec (j < depth) → get_or (set slots depth slot) j 0 < layout.slots
-          path j h (yes t) = rw (get_or-set_other slots depth j slot 0 (λ e. omega arith)) (d.path_below j t)
-          path j h (no t) = let e : j ≡ depth = omega arith in rw (e, get_or-set_same slots depth slot 0 (omega (arith, d.falls, d.slots_long))) d.slot_below
+          here : Passed
+          here = record { slot = slot; place = place }
+
+          path : (j : ℕ) → j < depth + 1 → Dec (j < depth) → (passed_at (set passed depth here) j).slot < layout.slots
+          path j h (yes t) = rw (get_or-set_other passed depth j here nowhere (λ e. omega arith)) (d.path_below j t)
+          path j h (no t) = let e : j ≡ depth = omega arith in rw (e, get_or-set_same passed depth here nowhere (omega (arith, d.falls, d.long))) d.slot_below

@@ -15,7 +15,7 @@ use Rattle.pktree.proofs.Arranged.{Arranged, arranged_upper, arranged_join}
 use Rattle.pktree.proofs.Absurd.{zero_is_not_one}
 use Rattle.pktree.proofs.Forests.{join_assoc, size_join}
 use Rattle.measures.specs.Slot.{slot_part, element_index}
-use Rattle.elements.specs.Element.{element_of, element_at}
+use Rattle.elements.specs.Element.{element_of, element_at, named}
 use Rattle.elements.specs.Splice.{code_at, PlaceOf}
 use Rattle.elements.specs.declared.Element.{Element}
 use Rattle.elements.specs.declared.Element.TheVariants.{Pixel, Block}
@@ -26,7 +26,16 @@ use Rattle.descent.proofs.Cutting.{arranged_parts}
 
 abbrev element_code : Element → ℕ
 element_code (Pixel c) = c
-element_code (Block s i c) = c
+element_code (Block block) = block.code
+
+-- the slot and the level of a block's element
+abbrev element_slot : Element → ℕ
+element_slot (Pixel c) = 0
+element_slot (Block block) = block.slot
+
+abbrev element_level : Element → ℕ
+element_level (Pixel c) = 0
+element_level (Block block) = block.level
 
 -- an element's code is its first word
 code_of_element_lem : (part : List ℕ) (i : ℕ) {e : Element} → element_at part i ≡ e → code_at part i ≡ element_code e
@@ -62,7 +71,7 @@ module _ {part : List ℕ} {count code : ℕ} (place : ℕ) (element : Element) 
 
 -- the same of a block, by the level from which on it and the code share a block
 module _ {part : List ℕ} {count code : ℕ} (s i c level : ℕ) (common : CommonLevel c code level) (place : ℕ) (element : Element)
-    (at : PlaceOf part count code place) (some : place ≡ 0 → ⊥) (decoded : element ≡ element_at part (place - 1)) (is : element ≡ Block s i c) where
+    (at : PlaceOf part count code place) (some : place ≡ 0 → ⊥) (decoded : element ≡ element_at part (place - 1)) (is : element ≡ named s i c) where
   pub after_block : i < level → BetweenElements part count code place
   after_block low = between place element at some decoded (rw is (λ q. omega (arith, common.least i q)))
 
@@ -99,7 +108,7 @@ module _ {k width slots : ℕ} {words : List ℕ} {slot level from : ℕ} {es : 
   named_pixel : (a : Placed) (c : ℕ) (b : Placed) (place : ℕ) → es ≡ a ⧺ pixel c b → size a ≡ place → element_at part place ≡ Pixel c
   named_pixel a c b place e n = rw n at (element_pixel part level from es a b view.says c e)
 
-  named_block : (a : Placed) (s i c : ℕ) (fs b : Placed) (place : ℕ) → es ≡ a ⧺ block_at s i c fs b → size a ≡ place → element_at part place ≡ Block s i c
+  named_block : (a : Placed) (s i c : ℕ) (fs b : Placed) (place : ℕ) → es ≡ a ⧺ block_at s i c fs b → size a ≡ place → element_at part place ≡ named s i c
   named_block a s i c fs b place e n = rw n at (element_block part level from es a b view.says s i c fs e (inner_view a s i c fs b e).small)
 
   parts : (a b : Placed) → es ≡ a ⧺ b → (mid : ℕ) × Arranged k level from mid a × Arranged k level mid to b
@@ -157,7 +166,7 @@ module _ {k width slots : ℕ} {words : List ℕ} {slot level from : ℕ} {es : 
           let other : c ≡ code → ⊥ = rw named at (h.ends i refl) in
           up_to a (pixel c empty) b (suc c) e refl n (arranged_join k level from mid code a (pixel c empty) low (high.0, omega arith)) high.1
       go (at_block a s j c fs b e n) =
-          let named : element_at part i ≡ Block s j c = named_block a s j c fs b i e n in
+          let named : element_at part i ≡ named s j c = named_block a s j c fs b i e n in
           let (mid, low, high) = parts a (block_at s j c fs b) e in
           let starts_below : c ≤ code = rw (code_of_element_lem part i named) at (h.place_of.before i refl) in
           let other : c / 4 ^ j ≡ code / 4 ^ j → ⊥ = rw named at (h.ends i refl) in
@@ -194,7 +203,8 @@ module _ {k width slots : ℕ} {words : List ℕ} {slot level from : ℕ} {es : 
       go : SplitAt es place → EntersBlock code place s i c es
       go (at_pixel a d b e n) = zero_is_not_one (cc (named_pixel a d b place e n, h.block))
       go (at_block a t j d fs b e n) =
-          let e' : es ≡ a ⧺ block_at s i c fs b = cc (named_block a t j d fs b place e n, h.block, e) in
+          let same : named t j d ≡ named s i c = sym (named_block a t j d fs b place e n) ∙ h.block in
+          let e' : es ≡ a ⧺ block_at s i c fs b = cc (ap element_slot same, ap element_level same, ap element_code same, e) in
           record {
             before = a;
             inside = fs;

@@ -18,6 +18,7 @@ use Rattle.store.specs.Sound.{Sound}
 use Rattle.pktree.proofs.Unlabelled.{unlabelled_join, local_unlabelled}
 use Rattle.descent.specs.Way.{Frame, plug}
 use Rattle.descent.specs.declared.Located.{Located}
+use Rattle.descent.specs.declared.Passed.{Passed}
 use Rattle.descent.specs.Located.{LocatedIn}
 use Rattle.descent.proofs.Cutting.{arranged_parts}
 use Rattle.descent.proofs.SmallestLocated.{none_inside}
@@ -62,9 +63,9 @@ module _ (code : ℕ) where
       (rw joined (opened_beside _ f.level f.code mid (c + 4 ^ level) (f.code + 4 ^ f.level) (unlabelled f.before) (block level c (unlabelled es) empty) (unlabelled f.after) (suc opened)
       low (omega (arith, high.0)) high.7 q (opened_block level c (unlabelled es) opened p q s))))
 
-module _ {words slots places : List ℕ} {placed : Placed} {code : ℕ} {r : Located} (sound : Sound words placed) (h : LocatedIn words placed code slots places r) where
+module _ {words : List ℕ} {placed : Placed} {code : ℕ} {path : List Passed} {r : Located} (sound : Sound words placed) (h : LocatedIn words placed code path r) where
   pub opened_by_pixel_lem : opened_by_pixel code (unlabelled placed) ≡ suc r.depth
   opened_by_pixel_lem =
-      let n = opened_on_way code sound h.way r.slot r.level r.block h.es h.whole h.holds.0 h.holds.1 0
+      let n = opened_on_way code sound h.way r.block.slot r.block.level r.block.code h.es h.whole h.holds.0 h.holds.1 0
       (none_opened code (unlabelled h.es) (none_inside sound h)) in
       ap (λ (t : Placed). opened_by_pixel code (unlabelled t)) h.whole ∙ omega (arith, n, h.depth)

@@ -23,6 +23,7 @@ use Rattle.store.specs.Placed.{Placed}
 use Rattle.store.specs.Sound.{Sound}
 use Rattle.descent.specs.Way.{Frame, plug}
 use Rattle.descent.specs.declared.Located.{Located}
+use Rattle.descent.specs.declared.Passed.{Passed}
 use Rattle.descent.specs.Located.{PlaceIn, LocatedIn}
 use Rattle.descent.proofs.Ways.{around}
 
@@ -75,25 +76,25 @@ at_place k n from to code place false es h =
     (place_between k n from code to (unlabelled h.before) empty (unlabelled h.after) (arranged_unlabelled k n from code h.before h.below) (arranged_unlabelled k n (suc code) to h.after h.above)
     (record { none = λ i c fs m. absurd (Memᴰ.not-nil m); element = refl }))
 
-module _ {words slots places : List ℕ} {placed : Placed} {code : ℕ} {r : Located} (sound : Sound words placed) (h : LocatedIn words placed code slots places r) where
+module _ {words : List ℕ} {placed : Placed} {code : ℕ} {path : List Passed} {r : Located} (sound : Sound words placed) (h : LocatedIn words placed code path r) where
   abbrev panel : Panel
   panel = panel_of (sizes_of words)
 
   here : AtPlace code r.marked (unlabelled h.es)
-  here = at_place (sizes_of words).k r.level r.block (r.block + 4 ^ r.level) code r.place r.marked h.es h.place
+  here = at_place (sizes_of words).k r.block.level r.block.code (r.block.code + 4 ^ r.block.level) code r.place r.marked h.es h.place
 
   -- no block inside the one at the end contains the code
   pub none_inside : NoneContains code (unlabelled h.es)
   none_inside = here.none
 
   -- a block of a sound store's tree is instantiated, and has the elements that 01 gathers
-  instantiated : Instantiated panel (member (pixels placed)) r.level r.block × (unlabelled h.es ≡ gather (member (pixels placed)) panel.k r.level r.block)
+  instantiated : Instantiated panel (member (pixels placed)) r.block.level r.block.code × (unlabelled h.es ≡ gather (member (pixels placed)) panel.k r.block.level r.block.code)
   instantiated =
-      (in_tree_exactly_instantiated panel (member (pixels placed)) r.level r.block (unlabelled h.es)).0
-      (subst (λ (f : Forest). Memᴰ (block_of r.level r.block (unlabelled h.es)) (blocks f)) (ap unlabelled (sym h.whole) ∙ sound.is_tree)
-      (block_on_way h.way r.slot r.level r.block h.es))
+      (in_tree_exactly_instantiated panel (member (pixels placed)) r.block.level r.block.code (unlabelled h.es)).0
+      (subst (λ (f : Forest). Memᴰ (block_of r.block.level r.block.code (unlabelled h.es)) (blocks f)) (ap unlabelled (sym h.whole) ∙ sound.is_tree)
+      (block_on_way h.way r.block.slot r.block.level r.block.code h.es))
 
-  pub located_smallest : Smallest panel (member (pixels placed)) code r.level r.block
+  pub located_smallest : Smallest panel (member (pixels placed)) code r.block.level r.block.code
   located_smallest =
       smallest_if_none_inside panel (member (pixels placed)) code instantiated.0 h.holds
       (subst (NoneContains code) instantiated.1 none_inside)

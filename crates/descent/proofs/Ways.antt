@@ -1,4 +1,4 @@
--- The way down a sound store: every block on it is seen as the walks see blocks, and the arrays name its frames.
+-- The way down a sound store: every block on it is seen as the walks see blocks, and the path names its frames.
 use Prim.Native.Nat.{ℕ, ◌≤◌, ◌<◌}
 use native.Mathlib.Omega.{arith}
 use mathlib.Core.Path.{◌≡◌, refl}
@@ -12,7 +12,8 @@ use Rattle.store.specs.Sound.{Sound}
 use Rattle.store.proofs.SoundView.{sound_view}
 use Rattle.store.proofs.BlockView.{BlockView, ChildView, child_view, root_view}
 use Rattle.descent.specs.Way.{Frame, plug}
-use Rattle.descent.specs.Located.{PathNames}
+use Rattle.descent.specs.declared.Passed.{Passed}
+use Rattle.descent.specs.Located.{PathNames, nowhere}
 
 -- a block of a sound store, and a block among its elements
 abbrev pub Seen : List ℕ → ℕ → ℕ → ℕ → Placed → Type 0
@@ -45,16 +46,14 @@ seen_on_way {words} sound (f ∷ way) slot level code es whole =
     (seen_inside words f slot level code es (seen_on_way sound way f.slot f.level f.code (around f slot level code es) whole)).view
 
 -- a step down writes behind the names that are there
-names_stay : (slots places : List ℕ) (d s p : ℕ) (way : List Frame) → length way ≤ d → PathNames slots places way → PathNames (set slots d s) (set places d p) way
-names_stay slots places d s p [] h names = tt
-names_stay slots places d s p (f ∷ way) h names =
-    let away : length way ≡ d → ⊥ = λ e. omega arith in
-    (rw (get_or-set_other slots d (length way) s 0 away) names.0, rw (get_or-set_other places d (length way) p 0 away) names.1, names_stay slots places d s p way (omega arith) names.2)
+names_stay : (passed : List Passed) (d : ℕ) (here : Passed) (way : List Frame) → length way ≤ d → PathNames passed way → PathNames (set passed d here) way
+names_stay passed d here [] h names = tt
+names_stay passed d here (f ∷ way) h names =
+    (rw (get_or-set_other passed d (length way) here nowhere (λ e. omega arith)) names.0, names_stay passed d here way (omega arith) names.1)
 
-pub names_more : (slots places : List ℕ) (f : Frame) (way : List Frame) (d p : ℕ) → d ≡ length way → d < length slots → d < length places → size f.before ≡ p
-    → PathNames slots places way → PathNames (set slots d f.slot) (set places d p) (f ∷ way)
-names_more slots places f way d p e hs hp q names = (
-  rw (← e) (get_or-set_same slots d f.slot 0 hs),
-  rw (← e, q) (get_or-set_same places d p 0 hp),
-  names_stay slots places d f.slot p way (omega arith) names,
+pub names_more : (passed : List Passed) (f : Frame) (way : List Frame) (d p : ℕ) → d ≡ length way → d < length passed → size f.before ≡ p
+    → PathNames passed way → PathNames (set passed d (record { slot = f.slot; place = p })) (f ∷ way)
+names_more passed f way d p e long q names = (
+  rw (← e, q) (get_or-set_same passed d (record { slot = f.slot; place = p }) nowhere long),
+  names_stay passed d (record { slot = f.slot; place = p }) way (omega arith) names,
 )

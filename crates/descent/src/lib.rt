@@ -1,30 +1,23 @@
 #![tactic(auto)]
 
-ghost use Rattle.std.specs.Prelude.{◌+◌, ◌*◌, ◌≤◌, ◌<◌, ◌≡◌, true, length};
+ghost use Rattle.std.specs.Prelude.{◌+◌, ◌*◌, ◌≤◌, ◌<◌, ◌≡◌, length, replicate};
 ghost use Rattle.measures.specs.Slot.{element_index};
-ghost use Rattle.measures.specs.Layout.{LayoutFits, most_elements};
-ghost use Rattle.descent.specs.Located.{Looked, CanEnter, FoundAt, LocateMeets};
+ghost use Rattle.measures.specs.Layout.{most_elements};
+ghost use Rattle.descent.specs.Located.{Looked, CanEnter, LocateMeets, nowhere};
 ghost use Rattle.descent.specs.Way.{path_length};
 
-use elements::{Element, element_at, find_place};
+use elements::{Block, Element, element_at, find_place};
+use measures::lent::Slots;
 use measures::sizes::Layout;
-use measures::slots::{SLOT_HEAD, slot_part, wide};
-use store::opening::{Opening, open_part};
+use measures::slots::{SLOT_HEAD, wide};
+use store::Damaged;
+use store::opening::open_part;
 
 // What the elements of one block show of a code: it ends here, at a pixel of its own or between two elements, or in an inner block.
 #[derive(Clone, Copy)]
 pub enum Ahead {
     Here { place: usize, marked: bool },
-    Inner(Child),
-}
-
-// An element that is a block: its place among the elements, and what it says of the block.
-#[derive(Clone, Copy)]
-pub struct Child {
-    pub place: usize,
-    pub slot: u32,
-    pub level: u32,
-    pub code: u32,
+    Inner { place: usize, block: Block },
 }
 
 // 01: anything that isn't a block ends the descent there.
@@ -41,7 +34,7 @@ fn look(part: &[u32], count: usize, code: u32) -> Ahead
         return between;
     }
     let last = place - 1;
-    let Element::Block(slot, level, inner) = element_at(part, last) else {
+    let Element::Block(inner) = element_at(part, last) else {
         if part[SLOT_HEAD + 2 * last] == code {
             return Ahead::Here {
                 place: last,
@@ -50,110 +43,89 @@ fn look(part: &[u32], count: usize, code: u32) -> Ahead
         }
         return between;
     };
-    if level < morton::common_level(inner, code) {
+    if inner.level < morton::common_level(inner.code, code) {
         return between;
     }
-    Ahead::Inner(Child {
+    Ahead::Inner {
         place: last,
-        slot,
-        level,
-        code: inner,
-    })
+        block: inner,
+    }
 }
 
 // The smallest block that holds a code, and where the code stands among its elements.
 #[derive(Clone, Copy)]
 pub struct Located {
-    pub damaged: bool,
     pub marked: bool,
-    pub slot: u32,
-    pub level: u32,
-    pub block: u32,
+    pub block: Block,
     pub place: usize,
     pub depth: usize,
 }
 
-// Room for the path to a block: the levels on it fall, from 16 at most.
-pub const PATH_LENGTH: usize = 17;
+// A block that was passed on the way down: its slot, and the place of the element that was entered there.
+#[derive(Clone, Copy)]
+pub struct Passed {
+    pub slot: u32,
+    pub place: u32,
+}
 
-// Goes down to the smallest block that holds the code, and names the way, root first: each block's slot, and the place entered there.
-pub fn locate(
-    store: &[u32],
-    layout: Layout,
-    order: u32,
-    code: u32,
-    slots: &mut [u32; PATH_LENGTH],
-    places: &mut [u32; PATH_LENGTH],
-) -> Located
-    requires { LayoutFits layout store.now × (order ≤ 16) × (length slots.old ≡ path_length) × (length places.old ≡ path_length) }
-    ensures { LocateMeets store.now layout order code slots.new places.new result }
+// Room for the path to a block: the levels on it fall, from 16 at most.
+const PATH_LENGTH: usize = 17;
+
+// The blocks that were passed on the way down, root first. How many there are is the depth, which stands outside: so the array
+// vanishes where only the depth is asked for.
+pub type Path = [Passed; PATH_LENGTH];
+
+pub fn no_path() -> Path
+    ensures { result ≡ replicate path_length nowhere }
+{
+    [Passed { slot: 0, place: 0 }; PATH_LENGTH]
+}
+
+// Goes down to the smallest block that holds the code, and names the way.
+pub fn locate(store: &Slots, order: u32, code: u32, path: &mut Path) -> Result<Located, Damaged>
+    requires { order ≤ 16 }
+    ensures { LocateMeets store.now.words.now store.now.layout order code path.new result }
 {
     let mut depth: usize = 0;
-    let mut slot: u32 = 0;
-    let mut level = order;
-    let mut block: u32 = 0;
-    while 0 < level {
-        let part = slot_part(store, layout, wide(slot));
-        let Opening::Elements(count) = open_part(part, level, block) else {
-            return damaged();
-        };
+    let mut block = Block {
+        slot: 0,
+        level: order,
+        code: 0,
+    };
+    while 0 < block.level {
+        let part = store.part(wide(block.slot));
+        let count = open_part(part, block.level, block.code)?;
         match look(part, count, code) {
             Ahead::Here { place, marked } => {
-                return found_at(marked, slot, level, block, place, depth);
+                return Ok(Located {
+                    marked,
+                    block,
+                    place,
+                    depth,
+                });
             }
-            Ahead::Inner(inner) => {
-                if !can_enter(layout, level, inner.slot, inner.level) {
-                    return damaged();
+            Ahead::Inner {
+                place,
+                block: inner,
+            } => {
+                if !can_enter(store.layout, block.level, inner) {
+                    return Err(Damaged);
                 }
-                slots[depth] = slot;
-                places[depth] = inner.place as u32;
+                path[depth] = Passed {
+                    slot: block.slot,
+                    place: place as u32,
+                };
                 depth += 1;
-                slot = inner.slot;
-                level = inner.level;
-                block = inner.code;
+                block = inner;
             }
         }
     }
-    damaged()
+    Err(Damaged)
 }
 
 // A block is entered where its level is lower and its slot is one of the store's.
-fn can_enter(layout: Layout, level: u32, slot: u32, inner: u32) -> bool
-    ensures { CanEnter layout level slot inner result }
+fn can_enter(layout: Layout, level: u32, inner: Block) -> bool
+    ensures { CanEnter layout level inner.slot inner.level result }
 {
-    if level <= inner {
-        return false;
-    }
-    if layout.slots <= wide(slot) {
-        return false;
-    }
-    true
-}
-
-fn found_at(marked: bool, slot: u32, level: u32, block: u32, place: usize, depth: usize) -> Located
-    ensures { FoundAt marked slot level block place depth result }
-{
-    Located {
-        damaged: false,
-        marked,
-        slot,
-        level,
-        block,
-        place,
-        depth,
-    }
-}
-
-fn damaged() -> Located
-    ensures { result.damaged ≡ true }
-{
-    Located {
-        damaged: true,
-        marked: false,
-        slot: 0,
-        level: 0,
-        block: 0,
-        place: 0,
-        depth: 0,
-    }
+    inner.level < level && wide(inner.slot) < layout.slots
 }

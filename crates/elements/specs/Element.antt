@@ -19,9 +19,13 @@ tag_slot tag = tag % tag_slots
 abbrev pub tag_level : ℕ → ℕ
 tag_level tag = tag / tag_slots
 
+-- the element that names a block by its slot, level and code
+abbrev pub named : ℕ → ℕ → ℕ → Element
+named slot level code = Block (record { slot = slot; level = level; code = code })
+
 abbrev pub element_of : ℕ → ℕ → Element
 element_of code zero = Pixel code
-element_of code (suc tag) = Block (tag_slot tag) (tag_level tag) code
+element_of code (suc tag) = named (tag_slot tag) (tag_level tag) code
 
 -- element i of a slot's words
 abbrev pub element_at : List ℕ → ℕ → Element

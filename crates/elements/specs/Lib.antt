@@ -1,2 +1,3 @@
 pub mod Element
 pub mod Splice
+pub mod RunStart

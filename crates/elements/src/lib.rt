@@ -5,18 +5,26 @@ ghost use Rattle.std.specs.Prelude.{◌+◌, ◌*◌, ◌≤◌, ◌<◌, ◌≡
 ghost use Rattle.std.proofs.Math.Seq.{paste};
 ghost use Rattle.elements.specs.Element.{block_tag, element_of, element_at};
 ghost use Rattle.elements.specs.Splice.{PlaceOf, CanSplice, Spliced, with_header};
+ghost use Rattle.elements.specs.RunStart.{RunStart};
 ghost use Rattle.measures.specs.Layout.{most_element_words, most_elements, most_slots};
 ghost use Rattle.measures.specs.Slot.{element_index, slot_head};
 
-use measures::slots::{
-    CODE, COUNT, ELEMENT_BEFORE, LEVEL, MOST_ELEMENT_WORDS, NUMBER, SLOT_HEAD, wide,
-};
+use measures::slots::{CODE, COUNT, LEVEL, MOST_ELEMENT_WORDS, NUMBER, SLOT_HEAD, wide};
+use morton::block_index;
+
+// What an element says of a block: its slot, its level and its code.
+#[derive(Clone, Copy)]
+pub struct Block {
+    pub slot: u32,
+    pub level: u32,
+    pub code: u32,
+}
 
 // 01: an element is either a pixel with its code or a block with its slot, here with its level and code as well.
 #[derive(Clone, Copy)]
 pub enum Element {
     Pixel(u32),
-    Block(u32, u32, u32),
+    Block(Block),
 }
 
 // The tag of a block's element has its slot below this number and its level above it.
@@ -38,7 +46,11 @@ fn element_of(code: u32, tag: u32) -> Element
         return Element::Pixel(code);
     }
     let rest = tag - 1;
-    Element::Block(rest % TAG_SLOTS, rest / TAG_SLOTS, code)
+    Element::Block(Block {
+        slot: rest % TAG_SLOTS,
+        level: rest / TAG_SLOTS,
+        code,
+    })
 }
 
 pub fn element_at(part: &[u32], i: usize) -> Element
@@ -54,28 +66,40 @@ pub fn find_place(part: &[u32], count: usize, code: u32) -> usize
     requires { (element_index count ≤ length part.now) × (count ≤ most_elements) }
     ensures { PlaceOf part.now count code result }
 {
-    let mut place = count;
-    while 0 < place {
-        if part[ELEMENT_BEFORE + 2 * place] <= code {
-            return place;
+    for i in (0..count).rev() {
+        if part[SLOT_HEAD + 2 * i] <= code {
+            return i + 1;
         }
-        place -= 1;
     }
-    place
+    0
 }
 
+// The first element of the run around the code, by the words of elements: of those before `from` that lie in its block of this level.
+pub fn run_start(elements: &[u32], from: usize, code: u32, level: u32) -> usize
+    requires { (2 * from ≤ length elements.now) × (level ≤ 15) }
+    ensures { RunStart elements.now from code level result }
+{
+    let block = block_index(code, level);
+    for i in (0..from).rev() {
+        if block_index(elements[2 * i], level) != block {
+            return i + 1;
+        }
+    }
+    0
+}
+
+// A loop, since a slot has few words: quicker here than `copy_from_slice`.
 pub fn copy_words(target: &mut [u32], at: usize, source: &[u32], count: usize)
     requires { (at + count ≤ length target.old) × (count ≤ length source.now) }
     ensures { target.new ≡ paste target.old at source.now count }
 {
-    let mut j = 0;
-    while j < count {
+    for j in 0..count {
         target[at + j] = source[j];
-        j += 1;
     }
 }
 
-// Words of one slot go elsewhere in it, over their own old place too; the compiler makes one move of the two copies, without the buffer.
+// Words of one slot go elsewhere in it, over their own old place too; the compiler makes one move of the two copies, without the buffer, and
+// that is quicker than `copy_within`.
 fn move_words(part: &mut [u32], from: usize, to: usize, count: usize)
     requires { ((from + count ≤ length part.old) × (to + count ≤ length part.old)) × (count ≤ most_element_words) }
     ensures { part.new ≡ paste part.old to (drop from part.old) count }

@@ -1,40 +1,38 @@
--- Codes judged one after the other: what is left to judge holds exactly where the whole does.
-use Prim.Native.Nat.{ℕ, ◌+◌, ◌^◌, ◌≤◌, ◌<◌}
+-- Codes of which each is below the next ascend, and where one is not, they do not.
+use Prim.Native.Nat.{ℕ, zero, suc, ◌≤◌, ◌<◌}
 use native.Mathlib.Omega.{arith}
 use native.Mathlib.Numerals.{add-one}
-use mathlib.Core.Logic.{◌↔◌}
-use mathlib.Core.List.{List}
-use lib.ListN.{length, get_or, drop, drop_of_length-le}
-use lib.Seq.{drop-cons}
-use Rattle.pktree.specs.Lists.{Every}
+use mathlib.Core.Path.{◌≡◌, sym}
+use mathlib.Core.Bool.{Bool, true, false}
+use mathlib.Core.List.{List, [], ◌∷◌}
+use lib.ListN.{length, get_or}
+use lib.Dec.{ltb}
+use borrow.Author.Tests.{ltb-true, ltb-false}
+use Rattle.std.specs.List.{IsAllAdjacentAnswer}
 use Rattle.pktree.specs.PixelSet.{Ascending}
+use Rattle.measures.specs.Decides.{Decides}
 
-pub all_left : {P : Type 0} → P ↔ P
-all_left = (λ p. p, λ p. p)
+each_below_next : List ℕ → Type 0
+each_below_next codes = (k : ℕ) → suc k < length codes → get_or codes k 0 < get_or codes (suc k) 0
 
-first_passed : {First Rest Whole : Type 0} → First → (First × Rest) ↔ Whole → Rest ↔ Whole
-first_passed first left = (λ rest. left.0 (first, rest), λ whole. (left.1 whole).1)
+from_first : (from code : ℕ) (codes : List ℕ) → from ≤ code → each_below_next (code ∷ codes) → Ascending from (code ∷ codes)
+unfolding each_below_next
+from_first from code [] l below = (l, tt)
+from_first from code (next ∷ codes) l below =
+    (l, from_first (suc code) next codes (omega (arith, below 0 (omega arith))) (λ k r. below (suc k) (omega arith)))
 
-module _ (order : ℕ) (codes : List ℕ) (at : ℕ) where
-  abbrev On : List ℕ → Type 0
-  On l = Every (λ c. c < 4 ^ order) l
+each_in_order : (from : ℕ) (codes : List ℕ) → Ascending from codes → each_below_next codes
+unfolding each_below_next
+each_in_order from [] up k r = absurd (omega arith)
+each_in_order from (code ∷ []) up k r = absurd (omega arith)
+each_in_order from (code ∷ next ∷ codes) up zero r = omega (arith, up.1.0)
+each_in_order from (code ∷ next ∷ codes) up (suc k) r = each_in_order (suc code) (next ∷ codes) up.1 k (omega arith)
 
-  module _ (left : On (drop at codes) ↔ On codes) where
-    pub on_panel_next : at < length codes → get_or codes at 0 < 4 ^ order → On (drop (at + 1) codes) ↔ On codes
-    on_panel_next l p = rw add-one (first_passed p (rw (drop-cons codes at 0 l) at left))
-
-    pub off_panel : at < length codes → 4 ^ order ≤ get_or codes at 0 → On codes → ⊥
-    off_panel l p whole = let h = rw (drop-cons codes at 0 l) at (left.1 whole) in omega (arith, h.0)
-
-    pub all_on_panel_lem : length codes ≤ at → On codes
-    all_on_panel_lem l = left.0 (rw (drop_of_length-le codes l) tt)
-
-module _ (codes : List ℕ) (at from : ℕ) (left : Ascending from (drop at codes) ↔ Ascending 0 codes) where
-  pub ascend_next : at < length codes → from ≤ get_or codes at 0 → Ascending (get_or codes at 0 + 1) (drop (at + 1) codes) ↔ Ascending 0 codes
-  ascend_next l p = rw (add-one (get_or codes at 0), add-one at) (first_passed p (rw (drop-cons codes at 0 l) at left))
-
-  pub falls_back : at < length codes → get_or codes at 0 < from → Ascending 0 codes → ⊥
-  falls_back l p whole = let h = rw (drop-cons codes at 0 l) at (left.1 whole) in omega (arith, h.0)
-
-  pub all_ascend : length codes ≤ at → Ascending 0 codes
-  all_ascend l = left.0 (rw (drop_of_length-le codes l) tt)
+pub ascend_judged : (codes : List ℕ) (r : Bool) → IsAllAdjacentAnswer (λ x y b. b ≡ ltb x y) codes r → Decides r (Ascending 0 codes)
+unfolding each_below_next
+ascend_judged [] true each = tt
+ascend_judged (code ∷ codes) true each = from_first 0 code codes (omega arith) (λ k r. ltb-true _ _ (sym (rw add-one at (each k 0 (rw add-one r)))))
+ascend_judged codes false fails = λ up.
+    let above = ltb-false _ _ (sym (fails.2 0)) in
+    let below = each_in_order 0 codes up fails.0 (omega (arith, fails.1)) in
+    omega (arith, rw add-one at above)

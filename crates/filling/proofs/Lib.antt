@@ -1,3 +1,1 @@
 pub mod JudgedCodes
-pub mod FillEnds
-pub mod AppendAll

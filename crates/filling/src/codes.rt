@@ -13,28 +13,11 @@ pub fn all_on_panel(codes: &[u32], order: u32) -> bool
     ensures { Decides result (Every (λ c. c < 4 ^ order) codes.now) }
 {
     let end = block_size(order);
-    let mut at: usize = 0;
-    while at < codes.len() {
-        if end <= wide(codes[at]) {
-            return false;
-        }
-        at += 1;
-    }
-    true
+    codes.iter().all(|code| wide(*code) < end)
 }
 
 pub fn ascend(codes: &[u32]) -> bool
     ensures { Decides result (Ascending 0 codes.now) }
 {
-    let mut from: usize = 0;
-    let mut at: usize = 0;
-    while at < codes.len() {
-        let code = wide(codes[at]);
-        if code < from {
-            return false;
-        }
-        from = code + 1;
-        at += 1;
-    }
-    true
+    codes.is_sorted_by(|left, right| left < right)
 }

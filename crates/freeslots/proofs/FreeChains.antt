@@ -14,7 +14,7 @@ use borrow.Author.Tests.{eq-eqb, ne_eqb}
 use Rattle.pktree.specs.Lists.{Every, select}
 use Rattle.measures.specs.Words.{head_words, blocks_word, blocks_index, first_free_word, first_free_index}
 use Rattle.measures.specs.declared.sizes.Layout.{Layout}
-use Rattle.freeslots.specs.declared.FreeSlot.TheVariants.{Taken, Missing}
+use Rattle.std.proofs.Common.{Some, None}
 use Rattle.measures.specs.Layout.{LayoutFits}
 use Rattle.measures.specs.Slot.{slot_part, level_word, next_word, Within, next_index, slot_head}
 use Rattle.freeslots.specs.FreeSlots.{no_slot, FreeChain, FreeSlots, occurrences, TookFree, Released}
@@ -107,7 +107,7 @@ absent s (t ∷ l) h = go (ℕ_discrete t s) (absent s l)
 abbrev pub head_taken : Layout → ℕ → List ℕ → List ℕ
 head_taken layout slot before = set (set (take head_words before) first_free_index (next_word (slot_part layout.width before slot))) blocks_index (blocks_word before + 1)
 
-pub head_taken_lem : {layout : Layout} {slot : ℕ} {before after : List ℕ} → TookFree layout before after (Taken slot) → HeadWritten layout.width (head_taken layout slot before) before after
+pub head_taken_lem : {layout : Layout} {slot : ℕ} {before after : List ℕ} → TookFree layout before after (Some slot) → HeadWritten layout.width (head_taken layout slot before) before after
 head_taken_lem {layout} {slot} {before} took =
     rw took.4 (head_written_then blocks_index (blocks_word before + 1) (omega arith)
     (head_word_set layout.width before first_free_index (next_word (slot_part layout.width before slot)) (omega arith)))
@@ -120,7 +120,7 @@ pub record FirstTaken (layout : Layout) (slot : ℕ) (free before after : List �
   pub counted : blocks_word after ≡ blocks_word before + 1
   pub written : HeadWritten layout.width (head_taken layout slot before) before after
 
-pub first_taken : (layout : Layout) (slot : ℕ) (free before after : List ℕ) → LayoutFits layout before → TookFree layout before after (Taken slot)
+pub first_taken : (layout : Layout) (slot : ℕ) (free before after : List ℕ) → LayoutFits layout before → TookFree layout before after (Some slot)
     → FreeSlots layout.width before free → FirstTaken layout slot free before after
 first_taken layout slot [] before after fits took c = absurd (omega (arith, fits.within))
 first_taken layout slot (t ∷ free) before after fits took c =
@@ -143,7 +143,7 @@ first_taken layout slot (t ∷ free) before after fits took c =
     }
 
 -- where none was to be taken and fewer blocks are held than there are slots, none is free
-pub none_free_lem : (layout : Layout) (free before after : List ℕ) → Every (λ s. s < layout.slots) free → TookFree layout before after Missing
+pub none_free_lem : (layout : Layout) (free before after : List ℕ) → Every (λ s. s < layout.slots) free → TookFree layout before after None
     → FreeSlots layout.width before free → blocks_word before + length free ≡ layout.slots → free ≡ []
 none_free_lem layout [] before after inside took c left = refl
 none_free_lem layout (s ∷ free) before after inside took c left = absurd (took.1 (omega arith) (rw c.0 c.1) (omega arith))

@@ -1,11 +1,9 @@
 -- The slots that are available: a chain from word 7, each naming the next in its word 3, FFFFFFFF at the end. A free slot has level 0.
-use Rattle.std.specs.Prelude.{ℕ, zero, suc, ◌+◌, ◌-◌, ◌*◌, ◌<◌, ◌≡◌, List, [], ◌∷◌, eqb, length, take, drop, set}
+use Rattle.std.specs.Prelude.{ℕ, zero, suc, ◌+◌, ◌-◌, ◌*◌, ◌<◌, ◌≡◌, List, [], ◌∷◌, eqb, length, take, drop, set, Option, Some, None}
 use Rattle.pktree.specs.Lists.{Every, select}
 use Rattle.measures.specs.Words.{head_words, blocks_word, blocks_index, first_free_word, first_free_index}
 use Rattle.measures.specs.declared.sizes.Layout.{Layout}
 use Rattle.measures.specs.Layout.{store_end}
-use Rattle.freeslots.specs.declared.FreeSlot.{FreeSlot}
-use Rattle.freeslots.specs.declared.FreeSlot.TheVariants.{Taken, Missing}
 use Rattle.measures.specs.Slot.{slot_part, level_word, next_word}
 
 abbrev pub no_slot : ℕ
@@ -26,11 +24,11 @@ occurrences slot l = length (select (λ s. eqb s slot) l)
 
 -- what taking the first free slot does: word 7 names the next, and word 6 counts one block more; or word 7 names no free slot or word 6 as
 -- many blocks as there are slots, and nothing changed
-abbrev pub TookFree : Layout → List ℕ → List ℕ → FreeSlot → Type 0
-TookFree layout before after (Taken s) =
+abbrev pub TookFree : Layout → List ℕ → List ℕ → Option ℕ → Type 0
+TookFree layout before after (Some s) =
     (s ≡ first_free_word before) × (s < layout.slots) × (level_word (slot_part layout.width before s) ≡ 0) × (blocks_word before < layout.slots)
     × (after ≡ set (set before first_free_index (next_word (slot_part layout.width before s))) blocks_index (blocks_word before + 1))
-TookFree layout before after Missing =
+TookFree layout before after None =
     (after ≡ before)
     × (first_free_word before < layout.slots → level_word (slot_part layout.width before (first_free_word before)) ≡ 0 → blocks_word before < layout.slots → ⊥)
 

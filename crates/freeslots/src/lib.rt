@@ -9,36 +9,30 @@ use measures::sizes::Layout;
 use measures::slots::{NEXT, offset, wide};
 use measures::words::{BLOCKS, FIRST_FREE};
 
-#[derive(Clone, Copy)]
-pub enum FreeSlot {
-    Taken(u32),
-    Missing,
-}
-
 // The end of the chain of free slots.
 pub const NO_SLOT: u32 = 0xFFFFFFFF;
 
-// The first free slot, taken out of the chain.
-pub fn take_free(store: &mut [u32], layout: Layout) -> FreeSlot
+// The first free slot, taken out of the chain: none, where no slot is free or the words are damaged.
+pub fn take_free(store: &mut [u32], layout: Layout) -> Option<u32>
     requires { LayoutFits layout store.old }
     ensures { TookFree layout store.old store.new result }
 {
     let first = store[FIRST_FREE];
     if layout.slots <= wide(first) {
-        return FreeSlot::Missing;
+        return None;
     }
     let held = store[BLOCKS];
     if layout.slots <= wide(held) {
-        return FreeSlot::Missing;
+        return None;
     }
     let at = offset(layout, wide(first));
     // The level is a slot's first word.
     if store[at] != 0 {
-        return FreeSlot::Missing;
+        return None;
     }
     store[FIRST_FREE] = store[at + NEXT];
     store[BLOCKS] = held + 1;
-    FreeSlot::Taken(first)
+    Some(first)
 }
 
 // A slot given back: it becomes the first of the chain, and so many blocks are held then.
@@ -60,9 +54,7 @@ pub fn free_from(store: &mut [u32], layout: Layout, first: usize)
 {
     store[FIRST_FREE] = NO_SLOT;
     store[BLOCKS] = layout.slots as u32;
-    let mut slot = layout.slots;
-    while first < slot {
-        slot -= 1;
+    for slot in (first..layout.slots).rev() {
         release(store, layout, slot, slot as u32);
     }
 }

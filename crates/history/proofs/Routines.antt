@@ -1,5 +1,6 @@
 -- What ties a step to the compiled function: at every model that has the function's code, a call of its routine gives its caller just `Learnt`, and that is
 -- what the page says of the call, of which the steps are made.
+use Rattle.std.specs.Prelude.{Result, Bool}
 use Prim.Native.Nat.{ℕ}
 use mathlib.Core.Path.{◌≡◌, refl}
 use mathlib.Core.List.{List}
@@ -13,13 +14,10 @@ use borrow.Fn.Plain.{Known}
 use borrow.Fn.Run.{Over}
 use prog.Routine.{Env, Callee}
 use prog.Wired.{Code, Wired}
-use Rattle.answers.specs.declared.Outcome.{Outcome}
-use Rattle.answers.specs.declared.Asking.{Asking}
-use Rattle.answers.specs.declared.Searching.{Searching}
-use Rattle.answers.specs.declared.Counting.{Counting}
-use Rattle.answers.specs.declared.Listing.{Listing}
-use Rattle.answers.specs.declared.Saving.{Saving}
-use Rattle.answers.specs.declared.Checking.{Checking}
+use Rattle.answers.specs.declared.Refusal.{Refusal}
+use Rattle.answers.specs.declared.Found.{Found}
+use Rattle.answers.specs.declared.Nearest.{Nearest}
+use Rattle.answers.specs.declared.Place.{Place}
 use Rattle.answers.specs.Answer.{answer, ask_answer, search_answer, count_answer, list_answer, save_answer, check_answer}
 use Rattle.promises.specs.Calls.{MakeMeets, MarkMeets, ClearMeets, AskMeets, NearestMeets, CountMeets, ListMeets, SaveMeets, LoadMeets, FillMeets, CheckMeets}
 use Rattle.register.proofs.make.Reads as make_reads
@@ -107,42 +105,42 @@ check_gives w wired γ called e = check_reads.known w γ called (w.𝓡.env chec
 
 -- what is learnt of a call, of which the steps are made: the page's words
 module _ (κs : Lfts 1) (s : MutBor (List ℕ)) (after : List ℕ) where
-  pub make_learnt : (m k n : ℕ) (r : Outcome) → make_reads.Learnt κs (s, (m, (k, (n, tt)))) r (at_last s after, (m, (k, (n, tt)))) ≡ MakeMeets s.now after m k n (answer r)
+  pub make_learnt : (m k n : ℕ) (r : Result (Unit {0}) Refusal) → make_reads.Learnt κs (s, (m, (k, (n, tt)))) r (at_last s after, (m, (k, (n, tt)))) ≡ MakeMeets s.now after m k n (answer r)
   make_learnt m k n r = refl
 
-  pub mark_learnt : (x y : ℕ) (r : Outcome) → mark_reads.Learnt κs (s, (x, (y, tt))) r (at_last s after, (x, (y, tt))) ≡ MarkMeets s.now after x y (answer r)
+  pub mark_learnt : (x y : ℕ) (r : Result (Unit {0}) Refusal) → mark_reads.Learnt κs (s, (x, (y, tt))) r (at_last s after, (x, (y, tt))) ≡ MarkMeets s.now after x y (answer r)
   mark_learnt x y r = refl
 
-  pub clear_learnt : (x y : ℕ) (r : Outcome) → clear_reads.Learnt κs (s, (x, (y, tt))) r (at_last s after, (x, (y, tt))) ≡ ClearMeets s.now after x y (answer r)
+  pub clear_learnt : (x y : ℕ) (r : Result (Unit {0}) Refusal) → clear_reads.Learnt κs (s, (x, (y, tt))) r (at_last s after, (x, (y, tt))) ≡ ClearMeets s.now after x y (answer r)
   clear_learnt x y r = refl
 
 module _ (κs : Lfts 1) (s : Bor (List ℕ)) where
-  pub ask_learnt : (x y : ℕ) (r : Asking) → ask_reads.Learnt κs (s, (x, (y, tt))) r (s, (x, (y, tt))) ≡ AskMeets s.now x y (ask_answer r)
+  pub ask_learnt : (x y : ℕ) (r : Result Place Refusal) → ask_reads.Learnt κs (s, (x, (y, tt))) r (s, (x, (y, tt))) ≡ AskMeets s.now x y (ask_answer r)
   ask_learnt x y r = refl
 
-  pub nearest_learnt : (x y budget : ℕ) (r : Searching)
+  pub nearest_learnt : (x y budget : ℕ) (r : Result Nearest Refusal)
       → nearest_reads.Learnt κs (s, (x, (y, (budget, tt)))) r (s, (x, (y, (budget, tt)))) ≡ NearestMeets s.now x y budget (search_answer r)
   nearest_learnt x y budget r = refl
 
-  pub count_learnt : (x0 y0 x1 y1 : ℕ) (r : Counting)
+  pub count_learnt : (x0 y0 x1 y1 : ℕ) (r : Result Found Refusal)
       → count_reads.Learnt κs (s, (x0, (y0, (x1, (y1, tt))))) r (s, (x0, (y0, (x1, (y1, tt))))) ≡ CountMeets s.now x0 y0 x1 y1 (count_answer r)
   count_learnt x0 y0 x1 y1 r = refl
 
-  pub check_learnt : (r : Checking) → check_reads.Learnt κs (s, tt) r (s, tt) ≡ CheckMeets s.now (check_answer r)
+  pub check_learnt : (r : Result Bool Refusal) → check_reads.Learnt κs (s, tt) r (s, tt) ≡ CheckMeets s.now (check_answer r)
   check_learnt r = refl
 
 module _ (κs : Lfts 2) (s : Bor (List ℕ)) (o : MutBor (List ℕ)) (written : List ℕ) where
-  pub list_learnt : (x0 y0 x1 y1 : ℕ) (r : Listing)
+  pub list_learnt : (x0 y0 x1 y1 : ℕ) (r : Result Found Refusal)
       → list_reads.Learnt κs (s, (x0, (y0, (x1, (y1, (o, tt)))))) r (s, (x0, (y0, (x1, (y1, (at_last o written, tt))))))
       ≡ ListMeets s.now x0 y0 x1 y1 o.now written (list_answer r)
   list_learnt x0 y0 x1 y1 r = refl
 
-  pub save_learnt : (r : Saving) → save_reads.Learnt κs (s, (o, tt)) r (s, (at_last o written, tt)) ≡ SaveMeets s.now o.now written (save_answer r)
+  pub save_learnt : (r : Result ℕ Refusal) → save_reads.Learnt κs (s, (o, tt)) r (s, (at_last o written, tt)) ≡ SaveMeets s.now o.now written (save_answer r)
   save_learnt r = refl
 
 module _ (κs : Lfts 2) (s : MutBor (List ℕ)) (given : Bor (List ℕ)) (after : List ℕ) where
-  pub load_learnt : (r : Outcome) → load_reads.Learnt κs (s, (given, tt)) r (at_last s after, (given, tt)) ≡ LoadMeets s.now after given.now (answer r)
+  pub load_learnt : (r : Result (Unit {0}) Refusal) → load_reads.Learnt κs (s, (given, tt)) r (at_last s after, (given, tt)) ≡ LoadMeets s.now after given.now (answer r)
   load_learnt r = refl
 
-  pub fill_learnt : (r : Outcome) → fill_reads.Learnt κs (s, (given, tt)) r (at_last s after, (given, tt)) ≡ FillMeets s.now after given.now (answer r)
+  pub fill_learnt : (r : Result (Unit {0}) Refusal) → fill_reads.Learnt κs (s, (given, tt)) r (at_last s after, (given, tt)) ≡ FillMeets s.now after given.now (answer r)
   fill_learnt r = refl

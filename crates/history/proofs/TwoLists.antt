@@ -1,9 +1,10 @@
 -- 01, demand 3: one claim about every two lists of calls after make.
+use Rattle.std.specs.Prelude.{Result, Ok}
 use Prim.Native.Nat.{ℕ, ◌+◌, ◌-◌, ◌*◌, ◌/◌, ◌≤◌}
 use native.Mathlib.Omega.{arith}
-use mathlib.Core.Path.{◌≡◌, refl, ap, ap₂, subst, subst₂, sym, ◌∙◌}
+use mathlib.Core.Path.{◌≡◌, refl, ap, ap₂, subst, sym, ◌∙◌}
 use mathlib.Core.Logic.{◌⊎◌, inl, inr, ◌↔◌}
-use mathlib.Core.List.{List, [], Memᴰ, ◌++◌}
+use mathlib.Core.List.{List, Memᴰ, ◌++◌}
 use lib.ListN.{length, take, drop}
 use lib.Seq.{take_at}
 use Rattle.pktree.specs.PixelSet.{member, PixelSet}
@@ -17,9 +18,8 @@ use Rattle.pktree.proofs.Images.{image_determines_set}
 use Rattle.measures.specs.declared.sizes.Sizes.{Sizes}
 use Rattle.store.proofs.Held.{tree_of_held, held_set}
 use Rattle.measures.specs.Sizes.{panel_of, sizes_of, ValidSizes}
-use Rattle.answers.specs.declared.Saving.{Saving}
-use Rattle.answers.specs.declared.Saving.TheVariants.{Saved}
 use Rattle.promises.specs.Answer.{Answer, accepted}
+use Rattle.answers.specs.declared.Refusal.{Refusal}
 use Rattle.answers.specs.Answer.{save_answer}
 use Rattle.promises.specs.Effect.{effect}
 use Rattle.promises.specs.Output.{WritesOrShort}
@@ -46,7 +46,7 @@ module _ (sizes : Sizes) (set words : List ℕ) (h : InStep sizes set words) whe
   image_is : image (panel_of (sizes_of words)) set ≡ image (panel_of sizes) set
   image_is = ap (λ (z : Sizes). image (panel_of z) set) h.sized
 
-  module _ (output : List ℕ) (r : Saving) (written : List ℕ) (m : SaveMeets words output written (save_answer r)) where
+  module _ (output : List ℕ) (r : Result ℕ Refusal) (written : List ℕ) (m : SaveMeets words output written (save_answer r)) where
     abbrev bytes : List ℕ
     bytes = image (panel_of (sizes_of words)) set
 
@@ -62,20 +62,20 @@ module _ (sizes : Sizes) (set words : List ℕ) (h : InStep sizes set words) whe
         ap₂ (λ (n : ℕ) (w : List ℕ). take n w) (ap (λ (a : Answer). a.first) d.is) d.wrote
         ∙ take_at bytes (drop (length bytes) output) (length bytes) refl
 
-  saved_accepted : (output : List ℕ) (r : Saving) (written : List ℕ) → SaveRun words output r written → length (image (panel_of sizes) set) ≤ length output
+  saved_accepted : (output : List ℕ) (r : Result ℕ Refusal) (written : List ℕ) → SaveRun words output r written → length (image (panel_of sizes) set) ≤ length output
       → (save_answer r).refusal ≡ 0
   saved_accepted output r written (by_save m) l =
       long_enough_accepted output r written m
       (subst (λ (b : List ℕ). length b ≤ length output) (sym image_is) l)
 
-  saved_is : (output : List ℕ) (r : Saving) (written : List ℕ) → SaveRun words output r written → (save_answer r).refusal ≡ 0
+  saved_is : (output : List ℕ) (r : Result ℕ Refusal) (written : List ℕ) → SaveRun words output r written → (save_answer r).refusal ≡ 0
       → full_image r written ≡ image (panel_of sizes) set
   saved_is output r written (by_save m) a = accepted_writes output r written m a ∙ image_is
 
   save_there : (output : List ℕ) → length (image (panel_of sizes) set) ≤ length output
-      → SaveRun words output (Saved (length (image (panel_of sizes) set))) (image (panel_of sizes) set ++ drop (length (image (panel_of sizes) set)) output)
+      → SaveRun words output (Ok (length (image (panel_of sizes) set))) (image (panel_of sizes) set ++ drop (length (image (panel_of sizes) set)) output)
   save_there output =
-      subst (λ (b : List ℕ). length b ≤ length output → SaveRun words output (Saved (length b)) (b ++ drop (length b) output)) image_is
+      subst (λ (b : List ℕ). length b ≤ length output → SaveRun words output (Ok (length b)) (b ++ drop (length b) output)) image_is
       (λ room. by_save (full_save h.holds output room))
 
   block_sizes_held : (level code : ℕ) (elements : Forest) → Memᴰ (block_of level code elements) (blocks (tree (panel_of sizes) (member set)))

@@ -1,4 +1,5 @@
 -- A whole history from what make and replay ensure, and the closed one.
+use Rattle.std.specs.Prelude.{Result}
 use Prim.Native.Nat.{ℕ, ◌≤◌}
 use native.Mathlib.Omega.{arith}
 use mathlib.Core.Path.{◌≡◌, refl, subst, sym, ◌∙◌}
@@ -6,7 +7,7 @@ use mathlib.Core.List.{List, [], ◌∷◌}
 use lib.ListN.{length}
 use Rattle.morton.specs.Code.{interleave}
 use Rattle.measures.specs.Sizes.{ValidSizes}
-use Rattle.answers.specs.declared.Outcome.{Outcome}
+use Rattle.answers.specs.declared.Refusal.{Refusal}
 use Rattle.answers.specs.Answer.{answer}
 use Rattle.promises.specs.Calls.{asked, MakeMeets}
 use Rattle.promises.proofs.Exactly.{make_refusals}
@@ -15,7 +16,7 @@ use Rattle.history.specs.Run.{by_make, Run, History}
 use Rattle.history.specs.Script.{calls_to, calls_of}
 use Rattle.history.specs.Whole.{RunMeets, sample_calls, SampleRan}
 
-module _ (before made : List ℕ) (m k n : ℕ) (outcome : Outcome) (meets : MakeMeets before made m k n (answer outcome)) (script images codes : List ℕ) (r : ℕ) (is : r ≡ (answer outcome).refusal) where
+module _ (before made : List ℕ) (m k n : ℕ) (outcome : Result (Unit {0}) Refusal) (meets : MakeMeets before made m k n (answer outcome)) (script images codes : List ℕ) (r : ℕ) (is : r ≡ (answer outcome).refusal) where
   pub ran : (after : List ℕ) → r ≡ 0 → Run (calls_of images codes script) made after → RunMeets before after m k n script images codes r
   ran after zero run = record {
     made = (λ e. (make_refusals meets).made.0 (sym is ∙ e), λ h. is ∙ (make_refusals meets).made.1 h);

@@ -1,5 +1,5 @@
 -- 01, demand 3: what is claimed of every two lists of calls after make.
-use Rattle.std.specs.Prelude.{ℕ, ◌+◌, ◌-◌, ◌*◌, ◌/◌, ◌≤◌, ◌≡◌, ◌↔◌, length, take, drop}
+use Rattle.std.specs.Prelude.{ℕ, ◌+◌, ◌-◌, ◌*◌, ◌/◌, ◌≤◌, ◌≡◌, ◌↔◌, length, take, drop, Result, Ok}
 use Rattle.std.proofs.Math.Option.{some}
 use mathlib.Core.List.{List, Memᴰ, ◌++◌}
 use Rattle.pktree.specs.PixelSet.{member}
@@ -11,14 +11,13 @@ use Rattle.measures.specs.Sizes.{panel_of}
 use Rattle.store.specs.Placed.{Placed}
 use Rattle.store.specs.Reading.{tree_of}
 use Rattle.store.specs.Sound.{Sound}
-use Rattle.answers.specs.declared.Saving.{Saving}
-use Rattle.answers.specs.declared.Saving.TheVariants.{Saved}
+use Rattle.answers.specs.declared.Refusal.{Refusal}
 use Rattle.answers.specs.Answer.{save_answer}
 use Rattle.promises.specs.Survivors.{Call, survivors}
 use Rattle.history.specs.Run.{SaveRun, History}
 
 -- 01: the full image, the first bytes of the output, as many as the length that save returns
-abbrev pub full_image : Saving → List ℕ → List ℕ
+abbrev pub full_image : Result ℕ Refusal → List ℕ → List ℕ
 full_image r written = take (save_answer r).first written
 
 -- one register: it holds exactly the blocks of its survivors, and its full image is exactly theirs
@@ -39,20 +38,20 @@ pub record HoldsSurvivors (sizes : Sizes) (calls : List Call) (words : List ℕ)
   pub number_of_blocks : 1 ≤ length (survivors sizes calls) → length (blocks (unlabelled placed)) ≤ 1 + (length (survivors sizes calls) - 1) / (sizes.k - 1)
   -- into an output that is long enough there is a save, of exactly the image of the survivors; the rest of the output is as it was
   pub can_save : (output : List ℕ) → length (image (panel_of sizes) (survivors sizes calls)) ≤ length output
-      → SaveRun words output (Saved (length (image (panel_of sizes) (survivors sizes calls))))
+      → SaveRun words output (Ok (length (image (panel_of sizes) (survivors sizes calls))))
       (image (panel_of sizes) (survivors sizes calls) ++ drop (length (image (panel_of sizes) (survivors sizes calls))) output)
   -- every save into such an output is accepted; one that is accepted writes exactly the image of the survivors
-  pub save_accepted : (output : List ℕ) (r : Saving) (written : List ℕ) → SaveRun words output r written
+  pub save_accepted : (output : List ℕ) (r : Result ℕ Refusal) (written : List ℕ) → SaveRun words output r written
       → length (image (panel_of sizes) (survivors sizes calls)) ≤ length output → (save_answer r).refusal ≡ 0
-  pub saved : (output : List ℕ) (r : Saving) (written : List ℕ) → SaveRun words output r written → (save_answer r).refusal ≡ 0
+  pub saved : (output : List ℕ) (r : Result ℕ Refusal) (written : List ℕ) → SaveRun words output r written → (save_answer r).refusal ≡ 0
       → full_image r written ≡ image (panel_of sizes) (survivors sizes calls)
 
 -- two registers, and their full images: the same bytes exactly when the same pixels survive
 pub record TwoLists (sizes sizes' : Sizes) (calls calls' : List Call) (words words' : List ℕ) : Type 0 where
   pub first : HoldsSurvivors sizes calls words
   pub second : HoldsSurvivors sizes' calls' words'
-  pub same_bytes : (output : List ℕ) (r : Saving) (written : List ℕ) → SaveRun words output r written → (save_answer r).refusal ≡ 0
-      → (output' : List ℕ) (r' : Saving) (written' : List ℕ) → SaveRun words' output' r' written' → (save_answer r').refusal ≡ 0
+  pub same_bytes : (output : List ℕ) (r : Result ℕ Refusal) (written : List ℕ) → SaveRun words output r written → (save_answer r).refusal ≡ 0
+      → (output' : List ℕ) (r' : Result ℕ Refusal) (written' : List ℕ) → SaveRun words' output' r' written' → (save_answer r').refusal ≡ 0
       → (full_image r written ≡ full_image r' written') ↔ (survivors sizes calls ≡ survivors sizes' calls')
 
 -- the claim itself: the two registers agree in m and k and may differ in N

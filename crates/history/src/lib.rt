@@ -4,7 +4,7 @@
 ghost use Rattle.std.specs.Prelude.{◌+◌, ◌*◌, ◌≤◌, ◌≡◌, length, take, drop};
 ghost use Rattle.promises.specs.Survivors.{list, save, load, fill};
 ghost use Rattle.history.specs.Run.{Step, Run};
-ghost use Rattle.history.specs.Script.{zeros, last_call_of, call_of, encoded_at, calls_of};
+ghost use Rattle.history.specs.Script.{zeros, call_of, encoded_at, calls_of};
 ghost use Rattle.history.specs.Whole.{RunMeets, SampleRan};
 
 use image::parts::part_of;
@@ -27,7 +27,7 @@ fn list_step(store: &[u32], call: Encoded)
 {
     let mut output = [0u32; 16];
     let n = wide(call.e % 17);
-    register::list(store, call.a, call.b, call.c, call.d, &mut output[..n]);
+    let _ = register::list(store, call.a, call.b, call.c, call.d, &mut output[..n]);
 }
 
 // save, with an output of its own.
@@ -36,84 +36,51 @@ fn save_step(store: &[u32], e: u32)
 {
     let mut output = [0u8; 64];
     let n = wide(e % 65);
-    register::save(store, &mut output[..n]);
+    let _ = register::save(store, &mut output[..n]);
 }
 
 // load, with a part of the bytes beside the script.
 fn load_step(store: &mut [u32], images: &[u8], a: u32, b: u32)
     ensures { Step (load (take b (drop a images.now))) store.old store.new }
 {
-    register::load(store, part_of(images, wide(a), wide(b)));
-}
-
-// So many words from this place on, or as many as there are.
-fn words_from(words: &[u32], from: usize, number: usize) -> &[u32]
-    ensures { result.now ≡ take number (drop from words.now) }
-{
-    if words.len() <= from {
-        return &words[..0];
-    }
-    if words.len() - from <= number {
-        return &words[from..];
-    }
-    &words[from..from + number]
+    let _ = register::load(store, part_of(images, wide(a), wide(b)));
 }
 
 // fill, with a part of the codes beside the script.
 fn fill_step(store: &mut [u32], codes: &[u32], a: u32, b: u32)
     ensures { Step (fill (take b (drop a codes.now))) store.old store.new }
 {
-    register::fill(store, words_from(codes, wide(a), wide(b)));
+    let _ = register::fill(store, part_of(codes, wide(a), wide(b)));
 }
 
-// nearest, or check for every number that is no other call's.
-fn last_step(store: &[u32], call: Encoded)
-    ensures { Step (last_call_of call) store.now store.now }
-{
-    if call.number == 8 {
-        register::nearest(store, call.a, call.b, call.c);
-        return;
-    }
-    register::check(store);
-}
-
-// One call, run by calling it.
+// One call, run by calling it: check for every number that is no other call's.
 fn step(store: &mut [u32], images: &[u8], codes: &[u32], call: Encoded)
     ensures { Step (call_of images.now codes.now call) store.old store.new }
 {
-    if call.number == 0 {
-        register::mark(store, call.a, call.b);
-        return;
+    match call.number {
+        0 => {
+            let _ = register::mark(store, call.a, call.b);
+        }
+        1 => {
+            let _ = register::clear(store, call.a, call.b);
+        }
+        2 => {
+            let _ = register::ask(store, call.a, call.b);
+        }
+        3 => {
+            let _ = register::count(store, call.a, call.b, call.c, call.d);
+        }
+        4 => list_step(store, call),
+        5 => save_step(store, call.e),
+        6 => load_step(store, images, call.a, call.b),
+        7 => fill_step(store, codes, call.a, call.b),
+        8 => {
+            let _ = register::nearest(store, call.a, call.b, call.c);
+        }
+        _ => {
+            let _ = register::check(store);
+        }
     }
-    if call.number == 1 {
-        register::clear(store, call.a, call.b);
-        return;
-    }
-    if call.number == 2 {
-        register::ask(store, call.a, call.b);
-        return;
-    }
-    if call.number == 3 {
-        register::count(store, call.a, call.b, call.c, call.d);
-        return;
-    }
-    if call.number == 4 {
-        list_step(store, call);
-        return;
-    }
-    if call.number == 5 {
-        save_step(store, call.e);
-        return;
-    }
-    if call.number == 6 {
-        load_step(store, images, call.a, call.b);
-        return;
-    }
-    if call.number == 7 {
-        fill_step(store, codes, call.a, call.b);
-        return;
-    }
-    last_step(store, call);
 }
 
 // The call at this index of a script.
@@ -136,11 +103,8 @@ fn encoded_at(script: &[u32], i: usize) -> Encoded
 pub fn replay(store: &mut [u32], script: &[u32], images: &[u8], codes: &[u32])
     ensures { Run (calls_of images.now codes.now script.now) store.old store.new }
 {
-    let mut i = 0;
-    while i < script.len() / 6 {
-        let call = encoded_at(script, i);
-        step(store, images, codes, call);
-        i += 1;
+    for i in 0..script.len() / 6 {
+        step(store, images, codes, encoded_at(script, i));
     }
 }
 

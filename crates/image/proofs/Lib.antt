@@ -3,5 +3,5 @@ pub mod EntryParts
 pub mod ImageOfSet
 pub mod ImageBytes
 pub mod Accepted
+pub mod BytesPut
 pub mod EntryWrites
-pub mod PartTaken

@@ -15,7 +15,7 @@ pub fn byte_at(bytes: &[u8], at: usize) -> u32
     requires { at < length bytes.now }
     ensures { (result ≡ get_or bytes.now at 0) × (result < 256) }
 {
-    bytes[at] as u32
+    u32::from(bytes[at])
 }
 
 // Four bytes, the low one first.
@@ -23,11 +23,7 @@ fn four_at(bytes: &[u8], at: usize) -> u32
     requires { at + 4 ≤ length bytes.now }
     ensures { result ≡ four_at bytes.now at }
 {
-    let first = byte_at(bytes, at);
-    let second = byte_at(bytes, at + 1);
-    let third = byte_at(bytes, at + 2);
-    let fourth = byte_at(bytes, at + 3);
-    first + 256 * second + 65536 * third + 16777216 * fourth
+    u32::from_le_bytes([bytes[at], bytes[at + 1], bytes[at + 2], bytes[at + 3]])
 }
 
 // Refusal 10's condition; 10 + 5e is worked out in 64 bits.
@@ -82,15 +78,10 @@ pub fn code_at(codes: &[u8], at: usize) -> u32
     four_at(codes, 4 * at)
 }
 
-// So many bytes from this place on, or as many as there are.
-pub fn part_of(bytes: &[u8], from: usize, number: usize) -> &[u8]
-    ensures { result.now ≡ take number (drop from bytes.now) }
+// So many items from this place on, or as many as there are.
+pub fn part_of<T>(items: &[T], from: usize, number: usize) -> &[T]
+    ensures { result.now ≡ take number (drop from items.now) }
 {
-    if bytes.len() <= from {
-        return &bytes[..0];
-    }
-    if bytes.len() - from <= number {
-        return &bytes[from..];
-    }
-    &bytes[from..from + number]
+    let rest = &items[from.min(items.len())..];
+    &rest[..number.min(rest.len())]
 }

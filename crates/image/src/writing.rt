@@ -9,10 +9,7 @@ fn put_four(output: &mut [u8], at: usize, value: u32)
     requires { at + 4 ≤ length output.old }
     ensures { output.new ≡ put_four output.old at value }
 {
-    output[at] = (value % 256) as u8;
-    output[at + 1] = (value / 256 % 256) as u8;
-    output[at + 2] = (value / 65536 % 256) as u8;
-    output[at + 3] = (value / 16777216 % 256) as u8;
+    output[at..at + 4].copy_from_slice(&value.to_le_bytes());
 }
 
 // Entry `at` of `entries`: its code in the first array, its level in the second.
@@ -21,7 +18,7 @@ pub fn put_entry(output: &mut [u8], entries: usize, at: usize, level: u32, code:
     ensures { output.new ≡ put_entry entries at output.old level code }
 {
     put_four(output, HEADER_BYTES + CODE_BYTES * at, code);
-    output[HEADER_BYTES + CODE_BYTES * entries + at] = (level % 256) as u8;
+    output[HEADER_BYTES + CODE_BYTES * entries + at] = level as u8;
 }
 
 // The sizes at the head of an image.
@@ -29,8 +26,8 @@ pub fn put_header(output: &mut [u8], order: u32, k: u32, entries: u32, pixels: u
     requires { (header_length ≤ length output.old) × ((order ≤ 16) × (k ≤ 16)) }
     ensures { HeaderPut output.old order k entries pixels output.new }
 {
-    output[0] = (order % 256) as u8;
-    output[1] = (k % 256) as u8;
+    output[0] = order as u8;
+    output[1] = k as u8;
     put_four(output, 2, entries);
     put_four(output, 6, pixels);
 }

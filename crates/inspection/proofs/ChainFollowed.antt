@@ -3,13 +3,11 @@ use Prim.Native.Nat.{ℕ, suc, ◌+◌, ◌≤◌, ◌<◌}
 use native.Mathlib.Omega.{arith}
 use mathlib.Core.Path.{◌≡◌, refl, ap, subst, sym, ◌∙◌}
 use mathlib.Core.List.{List, [], ◌∷◌, ◌++◌, append_assoc, append-nil}
-use lib.ListN.{length, get_or, length-append}
+use lib.ListN.{length, length-append}
 use Rattle.pktree.specs.Lists.{Every}
 use Rattle.measures.specs.Words.{first_free_word}
 use Rattle.measures.specs.declared.sizes.Layout.{Layout}
-use Rattle.measures.specs.Layout.{LayoutFits, SlotOffset}
 use Rattle.measures.specs.Slot.{slot_part, level_word, next_word}
-use Rattle.measures.proofs.SlotWrites.{slot_word}
 use Rattle.freeslots.specs.FreeSlots.{no_slot, FreeChain, FreeSlots}
 use Rattle.store.proofs.Standing.{every_join}
 use Rattle.inspection.specs.Chain.{ChainOf, ChainEnds, NoEnd}
@@ -93,14 +91,12 @@ module _ {layout : Layout} {words : List ℕ} where
         pub next_absent : layout.slots ≤ slot → NoEnd layout words
         next_absent past = record { none = λ free is few. omega (arith, (next_free more free is).0) }
 
-        module _ {at : ℕ} (offset : SlotOffset layout slot at) (fits : LayoutFits layout words) where
-          -- a word of its header
-          word : (i j : ℕ) → i ≡ at + j → j < 8 → get_or (slot_part layout.width words next) j 0 ≡ get_or words i 0
-          word i j e h = slot_word layout.width next words i j (omega (arith, rw same at offset.is)) (omega (arith, fits.within.width_from))
+        module _ {part : List ℕ} (lent : part ≡ slot_part layout.width words slot) where
+          its_part : part ≡ slot_part layout.width words next
+          its_part = rw same at lent
 
-          pub next_taken : (get_or words at 0 ≡ 0 → ⊥) → NoEnd layout words
-          next_taken taken = record { none = λ free is few. taken (sym (word at 0 (omega arith) (omega arith)) ∙ (next_free more free is).1) }
+          pub next_taken : (level_word part ≡ 0 → ⊥) → NoEnd layout words
+          next_taken taken = record { none = λ free is few. taken (rw its_part (next_free more free is).1) }
 
-          pub next_followed : slot < layout.slots → get_or words at 0 ≡ 0 → FollowedTo layout words (get_or words (at + 3) 0) (count + 1)
-          next_followed below idle =
-              rw (← word (at + 3) 3 refl (omega arith)) (followed_one more (omega arith) (word at 0 (omega arith) (omega arith) ∙ idle))
+          pub next_followed : slot < layout.slots → level_word part ≡ 0 → FollowedTo layout words (next_word part) (count + 1)
+          next_followed below idle = rw its_part (followed_one more (omega arith) (rw its_part at idle))

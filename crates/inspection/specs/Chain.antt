@@ -1,10 +1,9 @@
 -- What following the chain of free slots finds.
-use Rattle.std.specs.Prelude.{ℕ, ◌≤◌, ◌<◌, ◌≡◌, List, length}
+use Rattle.std.specs.Prelude.{ℕ, ◌≤◌, ◌<◌, ◌≡◌, List, length, Result, Ok, Err}
 use Rattle.pktree.specs.Lists.{Every}
 use Rattle.measures.specs.declared.sizes.Layout.{Layout}
 use Rattle.freeslots.specs.FreeSlots.{FreeSlots}
-use Rattle.inspection.specs.declared.chain.Chain.{Chain}
-use Rattle.inspection.specs.declared.chain.Chain.TheVariants.{Ends, Broken}
+use Rattle.store.specs.declared.Damaged.{Damaged}
 
 -- the chain of free slots, of slots that there are
 pub record ChainOf (layout : Layout) (words free : List ℕ) : Type 0 where
@@ -22,6 +21,6 @@ pub record NoEnd (layout : Layout) (words : List ℕ) : Type 0 where
   pub none : (free : List ℕ) → ChainOf layout words free → length free ≤ layout.slots → ⊥
 
 -- the number of its slots, or it has no end
-abbrev pub ChainMeets : Layout → List ℕ → Chain → Type 0
-ChainMeets layout words (Ends count) = ChainEnds layout words count
-ChainMeets layout words Broken = NoEnd layout words
+abbrev pub ChainMeets : Layout → List ℕ → Result ℕ Damaged → Type 0
+ChainMeets layout words (Ok count) = ChainEnds layout words count
+ChainMeets layout words (Err _) = NoEnd layout words

@@ -1,40 +1,30 @@
-ghost use Rattle.measures.specs.Layout.{LayoutFits};
 ghost use Rattle.inspection.specs.Chain.{ChainMeets};
 
-use measures::sizes::Layout;
-use measures::slots::{NEXT, offset, wide};
+use freeslots::NO_SLOT;
+use measures::lent::Slots;
+use measures::slots::{LEVEL, NEXT, wide};
 use measures::words::FIRST_FREE;
-
-// The end of the chain of free slots.
-const NO_SLOT: u32 = 0xFFFFFFFF;
-
-#[derive(Clone, Copy)]
-pub enum Chain {
-    Ends(usize),
-    Broken,
-}
+use store::Damaged;
 
 // How many slots the chain of free slots has, if it ends: it is followed no further than there are slots.
-pub fn count_free(store: &[u32], layout: Layout) -> Chain
-    requires { LayoutFits layout store.now }
-    ensures { ChainMeets layout store.now result }
+pub fn count_free(slots: &Slots) -> Result<usize, Damaged>
+    ensures { ChainMeets slots.now.layout slots.now.words.now result }
 {
-    let mut next = store[FIRST_FREE];
-    let mut count: usize = 0;
-    while next != NO_SLOT {
-        if layout.slots <= count {
-            return Chain::Broken;
+    let layout = slots.layout;
+    let mut next = slots.words[FIRST_FREE];
+    for count in 0..=layout.slots {
+        if next == NO_SLOT {
+            return Ok(count);
         }
         let slot = wide(next);
         if layout.slots <= slot {
-            return Chain::Broken;
+            return Err(Damaged);
         }
-        let at = offset(layout, slot);
-        if store[at] != 0 {
-            return Chain::Broken;
+        let part = slots.part(slot);
+        if part[LEVEL] != 0 {
+            return Err(Damaged);
         }
-        next = store[at + NEXT];
-        count += 1;
+        next = part[NEXT];
     }
-    Chain::Ends(count)
+    Err(Damaged)
 }

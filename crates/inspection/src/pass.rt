@@ -1,10 +1,11 @@
-ghost use Rattle.std.specs.Prelude.{◌+◌, ◌^◌, ◌≤◌, ◌≡◌, eqb};
+ghost use Rattle.std.specs.Prelude.{◌≤◌, ◌≡◌, eqb};
 ghost use Rattle.pktree.specs.Entries.{entry};
 ghost use Rattle.pktree.proofs.LocalTest.{tally};
 ghost use Rattle.inspection.specs.Pass.{CanPass, PassMeets, entry_of, first_pass};
 
 use elements::Element;
 use morton::block_size;
+use store::Damaged;
 
 // What one pass over the elements of a block knows of those behind it: the first code past them, the quarter of the last one, and how many
 // of them are in that quarter.
@@ -13,20 +14,6 @@ pub struct Pass {
     pub from: usize,
     pub quarter: usize,
     pub met: u32,
-}
-
-#[derive(Clone, Copy)]
-pub enum Passing {
-    On(Pass),
-    Refused,
-}
-
-// The first code past a block.
-pub fn block_end(level: u32, code: u32) -> usize
-    requires { level ≤ 16 }
-    ensures { result ≡ code + 4 ^ level }
-{
-    code as usize + block_size(level)
 }
 
 // Before the first element of a block whose quarters are of this level.
@@ -55,27 +42,27 @@ fn met_with(pass: Pass, quarter: usize) -> u32
 }
 
 // One element, by its level and code: it starts past those behind it, is aligned and no larger than a quarter, and its quarter has fewer than k.
-fn pass_entry(pass: Pass, k: u32, quarters: u32, level: u32, code: u32) -> Passing
+fn pass_entry(pass: Pass, k: u32, quarters: u32, level: u32, code: u32) -> Result<Pass, Damaged>
     requires { CanPass pass k quarters }
     ensures { PassMeets k quarters pass (entry level code) result }
 {
     let at = code as usize;
     if at < pass.from {
-        return Passing::Refused;
+        return Err(Damaged);
     }
     if quarters < level {
-        return Passing::Refused;
+        return Err(Damaged);
     }
     let codes = block_size(level);
     if at % codes != 0 {
-        return Passing::Refused;
+        return Err(Damaged);
     }
     let quarter = at / block_size(quarters);
     let met = met_with(pass, quarter);
     if k <= met {
-        return Passing::Refused;
+        return Err(Damaged);
     }
-    Passing::On(Pass {
+    Ok(Pass {
         from: at + codes,
         quarter,
         met,
@@ -83,12 +70,12 @@ fn pass_entry(pass: Pass, k: u32, quarters: u32, level: u32, code: u32) -> Passi
 }
 
 // The same of an element in its slot.
-pub fn pass_element(pass: Pass, k: u32, quarters: u32, element: Element) -> Passing
+pub fn pass_element(pass: Pass, k: u32, quarters: u32, element: Element) -> Result<Pass, Damaged>
     requires { CanPass pass k quarters }
     ensures { PassMeets k quarters pass (entry_of element) result }
 {
     match element {
         Element::Pixel(code) => pass_entry(pass, k, quarters, 0, code),
-        Element::Block(_, level, code) => pass_entry(pass, k, quarters, level, code),
+        Element::Block(block) => pass_entry(pass, k, quarters, block.level, block.code),
     }
 }

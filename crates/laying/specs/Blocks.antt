@@ -1,16 +1,16 @@
 -- A block written to a slot.
-use Rattle.std.specs.Prelude.{ℕ, ◌*◌, ◌≤◌, ◌<◌, ◌≡◌, List, length}
+use Rattle.std.specs.Prelude.{ℕ, ◌+◌, ◌%◌, ◌≤◌, ◌<◌, ◌≡◌, List, length}
 use Rattle.measures.specs.declared.sizes.Layout.{Layout}
 use Rattle.measures.specs.Layout.{LayoutFits}
-use Rattle.measures.specs.Slot.{slot_part, number_word, OnlySlot, element_index}
+use Rattle.measures.specs.Slot.{slot_part, number_word, OnlySlot, slot_head}
 use Rattle.rewrite.specs.Rewrite.{SlotNow}
 
--- the first elements of the source have room in the slot
-pub record LayDue (layout : Layout) (words : List ℕ) (slot : ℕ) (source : List ℕ) (count : ℕ) : Type 0 where
+-- elements, two words for each, have room in the slot
+pub record LayDue (layout : Layout) (words : List ℕ) (slot : ℕ) (elements : List ℕ) : Type 0 where
   pub fits : LayoutFits layout words
   pub slot_below : slot < layout.slots
-  pub room : element_index count ≤ layout.width
-  pub there : 2 * count ≤ length source
+  pub room : slot_head + length elements ≤ layout.width
+  pub pairs : length elements % 2 ≡ 0
 
 -- a slot's words say this block with elements of these words, and so many pixels beneath it
 pub record PartLaid (part : List ℕ) (level code number : ℕ) (elements : List ℕ) : Type 0 where

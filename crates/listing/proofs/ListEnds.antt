@@ -1,4 +1,5 @@
 -- What each way out of list shows.
+use Rattle.std.specs.Prelude.{Result, Ok, Err}
 use Prim.Native.Nat.{ℕ, ◌≤◌, ◌<◌}
 use native.Mathlib.Omega.{arith}
 use native.Mathlib.Nat.{zero-add}
@@ -22,27 +23,28 @@ use Rattle.promises.specs.Effect.{effect, passed, stopped}
 use Rattle.promises.specs.Walk.{Spoiled}
 use Rattle.promises.specs.Calls as calls
 use Rattle.promises.proofs.Answers.{refusal_of}
-use Rattle.answers.specs.declared.Counting.{Counting}
-use Rattle.answers.specs.declared.Counting.TheVariants.{Found, Refused}
-use Rattle.answers.specs.Answer.{number_of, count_answer}
+use Rattle.answers.specs.declared.Found.{Found}
+use Rattle.answers.specs.Answer.{refusal_answer, count_answer}
 use Rattle.answers.proofs.Numbers.{is_refused}
-use Rattle.query.specs.declared.walk.RangeQuery.{RangeQuery}
+use Rattle.query.specs.WindowRange.{Range}
 use Rattle.query.specs.declared.walk.Sum.{Sum}
 use Rattle.windows.specs.declared.Corners.{Corners}
-use Rattle.windows.specs.declared.Part.{Part}
-use Rattle.windows.specs.declared.Part.TheVariants.{Between, Empty}
+use Rattle.std.proofs.Common.{Option, Some, None}
 use Rattle.windows.specs.Corners.{window_between, PartBetween, PartCorners, PartOf}
-use Rattle.query.specs.Counting.{of_blocks, numbers_of, RootCounted, SumWithin}
+use Rattle.query.specs.Counting.{Ending, done, of_blocks, numbers_of, BlockCounted, RootCase, RootCounted, SumWithin}
+use Rattle.query.proofs.Counts.{not_done}
+use Rattle.std.specs.Prelude.{Result, Ok, Err}
+use Rattle.store.specs.declared.Damaged.{Damaged}
 use Rattle.query.proofs.Opens.{list_opens}
 use Rattle.query.proofs.WholeTree.{whole_tree}
-use Rattle.query.proofs.RootCount.{range_of, AnswersIn, of_root, root_tested, root_found, part_between, part_empty, part_counted_lem}
+use Rattle.query.proofs.RootCount.{part_range, AnswersIn, of_root, root_ends, walk_tested, root_found, part_between, part_empty, part_counted_lem}
 use Rattle.collecting.specs.Listing.{written_at, Lists, BlockListed, RootListed}
 use Rattle.listing.specs.Counted.{CountedBefore}
 use Rattle.collecting.proofs.WrittenAt.{written_front}
 
 -- 13 of a walk is 13 of list
 counted_not : (opens : Window → Forest → ℕ) {words before after : List ℕ} (window : Window) (refusal : Refusal) → length after ≡ length before
-    → AnswersIn opens words window (effect (refused (number_of refusal)) words words) → calls.ListsIn words window (effect (refused (number_of refusal)) before after)
+    → AnswersIn opens words window (effect (refusal_answer refusal) words words) → calls.ListsIn words window (effect (refusal_answer refusal) before after)
 counted_not opens window refusal long c =
     record {
       ends = ⊎_elim (λ a. absurd (is_refused refusal a.accepted)) (λ d. inr (d.0, long)) c.ends;
@@ -50,9 +52,9 @@ counted_not opens window refusal long c =
       sound = λ set holds. absurd (is_refused refusal (refusal_of (c.sound set holds).is));
     }
 
-pub counted_before : {words : List ℕ} (window : Window) {counted : Counting} {n m : ℕ} → counted ≡ Found n m
-    → calls.CountsIn words (window) (effect (count_answer counted) words words) → CountedBefore words window n
-counted_before window {m = m} e count = record { opened = m; counts = rw e at count }
+pub counted_before : {words : List ℕ} (window : Window) {counted : Result Found Refusal} {sum : Found} → counted ≡ Ok sum
+    → calls.CountsIn words (window) (effect (count_answer counted) words words) → CountedBefore words window sum.found
+counted_before window {sum = sum} e count = record { opened = sum.opened; counts = rw e at count }
 
 module _ {words : List ℕ} {window : Window} {n : ℕ} (count : CountedBefore words window n) where
   -- what was found is what 01 finds
@@ -75,109 +77,135 @@ module _ {words : List ℕ} {window : Window} {n : ℕ} (count : CountedBefore w
       }
 
 -- the walk counts too
-root_counts : {range : RangeQuery} {words before after : List ℕ} {order n : ℕ} {sum : Sum} → RootListed range words order n before after sum → RootCounted opened_by_window range words order sum
-root_counts root =
+block_counts : {range : Range} {words before part : List ℕ} {order : ℕ} {t : ℕ × ℕ × ℕ} {e : Ending} → BlockListed range words level_above_root 0 order 0 before part (0, 0, 0) t e
+    → BlockCounted opened_by_window range words level_above_root 0 order 0 (0, 0, 0) t e
+block_counts listed =
     record {
-      counted = record {
-        walked = record { right = λ k es low view shares. (root.listed.walked.right k es low view shares).counts };
-        closed = root.listed.closed;
-      };
+      walked = record { right = λ k es low view shares. let p = listed.walked.right k es low view shares in record { counts = p.lists.counts; ends = p.ends } };
+      closed = listed.closed;
     }
 
+module _ {range : Range} {words before after : List ℕ} {order n : ℕ} where
+  root_counts : {r : Result Sum Damaged} → RootListed range words order n before after r → RootCounted opened_by_window range words order r
+  root_counts {r} root = go r root.case
+    where
+      go : (r : Result Sum Damaged) → RootCase (BlockListed range words level_above_root 0 order 0 (take n before) root.part (0, 0, 0)) r → RootCounted opened_by_window range words order r
+      go (Ok sum) b = record { case = block_counts b }
+      go (Err _) b = record { case = (b.0, block_counts b.1) }
+
+  root_length : {r : Result Sum Damaged} (root : RootListed range words order n before after r) → length root.part ≡ length (take n before)
+  root_length {r} root = go r root.case
+    where
+      go : (r : Result Sum Damaged) → RootCase (BlockListed range words level_above_root 0 order 0 (take n before) root.part (0, 0, 0)) r → length root.part ≡ length (take n before)
+      go (Ok sum) b = b.long
+      go (Err _) b = b.1.long
+
 -- and writes all that 01 lists of the set
-module _ {words before after : List ℕ} {window : Window} {corners : Corners} {t : ℕ × ℕ × ℕ} (between : PartBetween (panel_of (sizes_of words)) window corners)
+module _ {words before after : List ℕ} {window : Window} {corners : Corners} {t : ℕ × ℕ × ℕ} {e : Ending} (between : PartBetween (panel_of (sizes_of words)) window corners)
     (fits : LayoutWithin (layout_of (sizes_of words)))
-    (listed : BlockListed (range_of (layout_of (sizes_of words)) (sizes_of words) corners) words level_above_root 0 (sizes_of words).order 0 before after (0, 0, 0) t) where
+    (listed : BlockListed (part_range (layout_of (sizes_of words)) (sizes_of words) corners) words level_above_root 0 (sizes_of words).order 0 before after (0, 0, 0) t e) where
   root_wrote : (set : List ℕ) → Holds words set → length (found (window_between corners) set) ≤ length before → after ≡ written_at before 0 (found (window_between corners) set)
   root_wrote set holds room =
       let (es, w) = whole_tree words set holds between in
-      let walked = listed.walked.right (sizes_of words).k es (omega (arith, w.view.level_to)) w.view w.shares in
+      let walked = (listed.walked.right (sizes_of words).k es (omega (arith, w.view.level_to)) w.view w.shares).lists in
       let wrote = (subst (λ (f : Forest). Lists (of_blocks opened_by_window (window_between corners)) (sizes_of words).most (layout_of (sizes_of words)).slots (before, 0, 0, 0) f (after, t.0, t.1, t.2)) (sym w.is_tree) walked).wrote in
       wrote (w.room (list_opens (window_between corners)) fits) (omega (arith, ap length w.all_found)) ∙ ap (written_at before 0) w.all_found
 
 -- the walk from the root, after the count
-module _ (words : List ℕ) {sizes : Sizes} (corners : Corners) (given : (UsableStore words × (sizes ≡ sizes_of words)) × PartCorners (panel_of sizes) corners)
-    {n w : ℕ} (count : CountedBefore words (window_between corners) n) (wide : w ≡ n) {layout : Layout} {before after : List ℕ} {sum : Sum} (fits : w ≤ length before)
-    (laid : LaidOut sizes layout) (root : RootListed (range_of layout sizes corners) words sizes.order w before after sum) where
+module _ (words : List ℕ) {sizes : Sizes} (corners : Corners) (usable : UsableStore words) (said : sizes ≡ sizes_of words) (part : PartCorners (panel_of sizes) corners)
+    {n w : ℕ} (count : CountedBefore words (window_between corners) n) (wide : w ≡ n) {layout : Layout} {read before after : List ℕ} {o : Result Sum Damaged} (fits : w ≤ length before)
+    (laid : LaidOut sizes layout) (same : read ≡ words) (root : RootListed (part_range layout sizes corners) read sizes.order w before after o) where
   between : PartCorners (panel_of (sizes_of words)) corners
-  between = subst (λ (s : Sizes). PartCorners (panel_of s) corners) given.0.1 given.1
+  between = subst (λ (s : Sizes). PartCorners (panel_of s) corners) said part
 
   low : LayoutWithin (layout_of (sizes_of words))
-  low = of_root words (λ l z. LayoutWithin l) given.0.1 laid laid.within
+  low = of_root words (λ l z. LayoutWithin l) said laid laid.within
 
-  root_here : RootCounted opened_by_window (range_of (layout_of (sizes_of words)) (sizes_of words) corners) words (sizes_of words).order sum
-  root_here = of_root words (λ l z. RootCounted opened_by_window (range_of l z corners) words z.order sum) given.0.1 laid (root_counts root)
+  here : RootListed (part_range (layout_of (sizes_of words)) (sizes_of words) corners) words (sizes_of words).order w before after o
+  here = of_root words (λ l z. RootListed (part_range l z corners) words z.order w before after o) said laid (subst (λ (r : List ℕ). RootListed (part_range layout sizes corners) r sizes.order w before after o) same root)
 
-  -- 02, P4: on a sound store it tests singly the elements of the opened blocks that are not wholly inside
-  pub list_tested : {set : List ℕ} → Holds words set → sum.tested ≡ tested_by_window (window_between corners) (tree (panel_of (sizes_of words)) (member set))
-  list_tested = root_tested (list_opens (window_between corners)) between low root_here
-
-  all_wrote : {set : List ℕ} → Holds words set → after ≡ written_at before 0 (found (window_between corners) set)
-  all_wrote {set} holds =
-      let n_is = found_is count holds in
-      root.is ∙ written_front before root.part (found (window_between corners) set) w (omega (arith, n_is)) fits
-      (root_wrote between low
-      (of_root words (λ l z. BlockListed (range_of l z corners) words level_above_root 0 z.order 0 (take w before) root.part (0, 0, 0) (numbers_of sum)) given.0.1 laid root.listed) set holds
-      (omega (arith, n_is, length-take-le w before fits)))
-
-  part_long : length root.part ≡ w
-  part_long = root.listed.long ∙ length-take-le w before fits
+  part_long : length here.part ≡ w
+  part_long = root_length here ∙ length-take-le w before fits
 
   same_length : length after ≡ length before
-  same_length = ap length root.is ∙ omega (arith, length-append root.part (drop w before), length-drop w before, part_long)
+  same_length = ap length here.is ∙ omega (arith, length-append here.part (drop w before), length-drop w before, part_long)
 
   rest_same : drop n after ≡ drop n before
-  rest_same = subst (λ (i : ℕ). drop i after ≡ drop i before) wide (ap (drop w) root.is ∙ drop_at root.part (drop w before) w part_long)
+  rest_same = subst (λ (i : ℕ). drop i after ≡ drop i before) wide (ap (drop w) here.is ∙ drop_at here.part (drop w before) w part_long)
 
-  -- the numbers that the blocks say are those of the pixels met
-  pub not_agreed : (sum.found ≡ n → ⊥) → calls.ListsIn words (window_between corners) (effect (refused 13) before after)
-  not_agreed other =
+  -- a walk that broke off met damage
+  pub not_walked : {d : Damaged} → o ≡ Err d → calls.ListsIn words (window_between corners) (effect (refused 13) before after)
+  not_walked {d} e =
+      let case = subst (RootCase (BlockListed (part_range (layout_of (sizes_of words)) (sizes_of words) corners) words level_above_root 0 (sizes_of words).order 0 (take w before) here.part (0, 0, 0))) e here.case in
       record {
         ends = inr (refl, same_length);
         spoiled = λ s. refl;
-        sound = λ set holds. absurd (other (root_found (list_opens (window_between corners)) between low root_here holds ∙ sym (found_is count holds)));
+        sound = λ set holds. absurd (not_done refl (root_ends (list_opens (window_between corners)) between low (block_counts case.1) holds));
       }
 
-  module _ {r : Counting} (within : SumWithin (range_of layout sizes corners) sum r) where
-    -- it answers as count does, but with all blocks that it opened
-    again : AnswersIn opened_by_window words (window_between corners) (effect (count_answer r) words words)
-    again = part_counted_lem (list_opens (window_between corners)) given laid (root_counts root) within
+  module _ {sum : Sum} (e : o ≡ Ok sum) where
+    block : BlockListed (part_range (layout_of (sizes_of words)) (sizes_of words) corners) words level_above_root 0 (sizes_of words).order 0 (take w before) here.part (0, 0, 0) (numbers_of sum) done
+    block = subst (RootCase (BlockListed (part_range (layout_of (sizes_of words)) (sizes_of words) corners) words level_above_root 0 (sizes_of words).order 0 (take w before) here.part (0, 0, 0))) e here.case
 
-    pub not_listed : {refusal : Refusal} → r ≡ Refused refusal → calls.ListsIn words (window_between corners) (effect (refused (number_of refusal)) before after)
-    not_listed {refusal} e = counted_not opened_by_window (window_between corners) refusal same_length (rw e at again)
+    -- 02, P4: on a sound store it tests singly the elements of the opened blocks that are not wholly inside
+    pub list_tested : {set : List ℕ} → Holds words set → sum.tested ≡ tested_by_window (window_between corners) (tree (panel_of (sizes_of words)) (member set))
+    list_tested = walk_tested (list_opens (window_between corners)) between low (block_counts block)
 
-    pub listed : {x opened : ℕ} → r ≡ Found x opened → calls.ListsIn words (window_between corners) (effect (accepted n opened) before after)
-    listed {x} {opened} e = go (rw e at again)
-      where
-        go : AnswersIn opened_by_window words (window_between corners) (effect (accepted x opened) words words) → calls.ListsIn words (window_between corners) (effect (accepted n opened) before after)
-        go c = record {
-          ends = inl (inl (record {
-            accepts = record { accepted = refl; first_to = found_few count; second_to = ⊎_elim (λ a. a.second_to) (λ d. absurd (omega (arith, refusal_of d.0))) c.ends; no_further = refl };
-            room = omega arith;
-            rest = rest_same;
-            long = same_length;
-          }));
-          spoiled = λ s. absurd (not_spoiled count s);
-          sound = λ set holds.
-              let n_is = found_is count holds in
-              passed (omega (arith, n_is))
-              (record {
-                is = ap₂ accepted n_is (ap (λ (a : Answer). a.second) (c.sound set holds).is);
-                wrote = all_wrote holds ∙ ap (λ (i : ℕ). found (window_between corners) set ++ drop i before) (zero-add (length (found (window_between corners) set)));
-              });
+    all_wrote : {set : List ℕ} → Holds words set → after ≡ written_at before 0 (found (window_between corners) set)
+    all_wrote {set} holds =
+        let n_is = found_is count holds in
+        here.is ∙ written_front before here.part (found (window_between corners) set) w (omega (arith, n_is)) fits
+        (root_wrote between low block set holds (omega (arith, n_is, length-take-le w before fits)))
+
+    -- the numbers that the blocks say are those of the pixels met
+    pub not_agreed : (sum.found ≡ n → ⊥) → calls.ListsIn words (window_between corners) (effect (refused 13) before after)
+    not_agreed other =
+        record {
+          ends = inr (refl, same_length);
+          spoiled = λ s. refl;
+          sound = λ set holds. absurd (other (root_found (list_opens (window_between corners)) between low (block_counts block) holds ∙ sym (found_is count holds)));
         }
 
--- each way out of the call, by the part that its sizes give
-module _ (words : List ℕ) {sizes : Sizes} (usable : UsableStore words × (sizes ≡ sizes_of words)) (window : Window) {part : Part} (judged : PartOf (panel_of sizes) window part) where
-  pub none_listed : {before : List ℕ} → part ≡ Empty → calls.Lists words window (effect (accepted 0 0) before before)
-  none_listed e = stopped (part_empty words usable.1 window judged e) (record { is = refl; same = refl })
+    module _ {r : Result Found Refusal} (within : SumWithin (part_range layout sizes corners) sum r) where
+      -- it answers as count does, but with all blocks that it opened
+      again : AnswersIn opened_by_window words (window_between corners) (effect (count_answer r) words words)
+      again = part_counted_lem (list_opens (window_between corners)) usable said part laid same (root_counts root) e within
 
-  module _ {corners : Corners} (e : part ≡ Between corners) where
+      pub not_listed : {refusal : Refusal} → r ≡ Err refusal → calls.ListsIn words (window_between corners) (effect (refusal_answer refusal) before after)
+      not_listed {refusal} f = counted_not opened_by_window (window_between corners) refusal same_length (rw f at again)
+
+      pub listed : {told : Found} → r ≡ Ok told → calls.ListsIn words (window_between corners) (effect (accepted n told.opened) before after)
+      listed {told} f = go (rw f at again)
+        where
+          go : AnswersIn opened_by_window words (window_between corners) (effect (accepted told.found told.opened) words words) → calls.ListsIn words (window_between corners) (effect (accepted n told.opened) before after)
+          go c = record {
+            ends = inl (inl (record {
+              accepts = record { accepted = refl; first_to = found_few count; second_to = ⊎_elim (λ a. a.second_to) (λ d. absurd (omega (arith, refusal_of d.0))) c.ends; no_further = refl };
+              room = omega arith;
+              rest = rest_same;
+              long = same_length;
+            }));
+            spoiled = λ s. absurd (not_spoiled count s);
+            sound = λ set holds.
+                let n_is = found_is count holds in
+                passed (omega (arith, n_is))
+                (record {
+                  is = ap₂ accepted n_is (ap (λ (a : Answer). a.second) (c.sound set holds).is);
+                  wrote = all_wrote holds ∙ ap (λ (i : ℕ). found (window_between corners) set ++ drop i before) (zero-add (length (found (window_between corners) set)));
+                });
+          }
+
+-- each way out of the call, by the part that its sizes give
+module _ (words : List ℕ) {sizes : Sizes} (said : sizes ≡ sizes_of words) (window : Window) {part : Option Corners} (judged : PartOf (panel_of sizes) window part) where
+  pub none_listed : {before : List ℕ} → part ≡ None → calls.Lists words window (effect (accepted 0 0) before before)
+  none_listed e = stopped (part_empty words said window judged e) (record { is = refl; same = refl })
+
+  module _ {corners : Corners} (e : part ≡ Some corners) where
     pub part_listed_lem : {a : Answer} {before after : List ℕ} → calls.ListsIn words (window_between corners) (effect a before after) → calls.Lists words window (effect a before after)
     part_listed_lem {a} {before} {after} l =
-        let between = part_between words usable.1 window judged e in
+        let between = part_between words said window judged e in
         passed between.ordered (subst (λ (w : Window). calls.ListsIn words w (effect a before after)) between.is l)
 
-    pub not_counted : {before : List ℕ} {counted : Counting} {refusal : Refusal} → counted ≡ Refused refusal
-        → calls.CountsIn words (window_between corners) (effect (count_answer counted) words words) → calls.Lists words window (effect (refused (number_of refusal)) before before)
+    pub not_counted : {before : List ℕ} {counted : Result Found Refusal} {refusal : Refusal} → counted ≡ Err refusal
+        → calls.CountsIn words (window_between corners) (effect (count_answer counted) words words) → calls.Lists words window (effect (refusal_answer refusal) before before)
     not_counted {refusal = refusal} f count = part_listed_lem (counted_not crossed_by_window (window_between corners) refusal refl (rw f at count))

@@ -31,10 +31,6 @@ most_elements = most_element_words / 2
 abbrev pub most_slots : ℕ
 most_slots = largest_most
 
--- what a walk over damaged words says that it opened
-abbrev pub more_than_slots : ℕ
-more_than_slots = 1 + most_slots
-
 -- above every block: the root's level is 01's m, at most 16
 abbrev pub level_above_root : ℕ
 level_above_root = 17

@@ -1,11 +1,9 @@
 -- 01 "The lent store": what words 0 to 3 say, and the formula.
-use Rattle.std.specs.Prelude.{ℕ, ◌+◌, ◌-◌, ◌*◌, ◌/◌, ◌≤◌, ◌≡◌, List, length, get_or, drop}
+use Rattle.std.specs.Prelude.{ℕ, ◌+◌, ◌-◌, ◌*◌, ◌/◌, ◌≤◌, ◌≡◌, List, length, get_or, drop, Option, None, Some}
 use Rattle.pktree.specs.Panel.{Panel, Valid}
 use Rattle.measures.specs.Words.{head_words, mark_word}
 use Rattle.measures.specs.Slot.{slot_head}
 use Rattle.measures.specs.declared.sizes.Sizes.{Sizes}
-use Rattle.measures.specs.declared.sizes.SizesRead.{SizesRead}
-use Rattle.measures.specs.declared.sizes.SizesRead.TheVariants.{Usable, Unusable}
 
 abbrev pub panel_of : Sizes → Panel
 panel_of sizes = record { order = sizes.order; k = sizes.k }
@@ -48,9 +46,9 @@ pub record UsableStore (words : List ℕ) : Type 0 where
   pub enough : store_words (sizes_of words) ≤ length words
 
 -- the sizes of a store to which refusal 3 does not apply; or it applies
-abbrev pub ReadSizes : List ℕ → SizesRead → Type 0
-ReadSizes words (Usable sizes) = (sizes ≡ sizes_of words) × UsableStore words
-ReadSizes words Unusable = UsableStore words → ⊥
+abbrev pub ReadSizes : List ℕ → Option Sizes → Type 0
+ReadSizes words (Some sizes) = (sizes ≡ sizes_of words) × UsableStore words
+ReadSizes words None = UsableStore words → ⊥
 
 -- the store is now one of these sizes; no other word changed
 pub record WroteSizes (sizes : Sizes) (before after : List ℕ) : Type 0 where

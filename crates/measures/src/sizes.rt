@@ -27,12 +27,6 @@ pub struct Layout {
     pub slots: usize,
 }
 
-#[derive(Clone, Copy)]
-pub enum SizesRead {
-    Usable(Sizes),
-    Unusable,
-}
-
 pub fn within_limits(sizes: Sizes) -> bool
     ensures { Decides result (ValidSizes sizes) }
 {
@@ -74,15 +68,15 @@ pub fn store_end(layout: Layout) -> usize
     HEAD_WORDS + layout.slots * layout.width
 }
 
-// The one place that judges words 0 to 3 and the length: refusal 3.
-pub fn read_sizes(store: &[u32]) -> SizesRead
+// The one place that judges words 0 to 3 and the length; none for refusal 3.
+pub fn read_sizes(store: &[u32]) -> Option<Sizes>
     ensures { ReadSizes store.now result }
 {
     if store.len() < HEAD_WORDS {
-        return SizesRead::Unusable;
+        return None;
     }
     if store[0] != MARK {
-        return SizesRead::Unusable;
+        return None;
     }
     let sizes = Sizes {
         order: store[1],
@@ -90,12 +84,12 @@ pub fn read_sizes(store: &[u32]) -> SizesRead
         most: store[3],
     };
     if !within_limits(sizes) {
-        return SizesRead::Unusable;
+        return None;
     }
     if store.len() < store_end(layout_of(sizes)) {
-        return SizesRead::Unusable;
+        return None;
     }
-    SizesRead::Usable(sizes)
+    Some(sizes)
 }
 
 // Words 0 to 3, for a store that is long enough.

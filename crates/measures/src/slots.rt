@@ -2,7 +2,7 @@ ghost use Rattle.std.specs.Prelude.{◌+◌, ◌*◌, ◌<◌, ◌≡◌};
 ghost use Rattle.measures.specs.Layout.{LayoutWithin, LayoutFits, SlotOffset};
 ghost use Rattle.measures.specs.Slot.{slot_part};
 
-use crate::sizes::{LARGEST_MOST, Layout};
+use crate::sizes::Layout;
 use crate::words::HEAD_WORDS;
 
 // The indices of the words of a slot.
@@ -19,17 +19,11 @@ pub const NUMBER: usize = 4;
 // So many come before its elements, which have two words each.
 pub const SLOT_HEAD: usize = 8;
 
-// With 2 * i added to it, the code of the element before element i.
-pub const ELEMENT_BEFORE: usize = SLOT_HEAD - 2;
-
 // The words that the elements of a slot have where k is 16, the most.
 pub const MOST_ELEMENT_WORDS: usize = 10 * (16 - 1);
 
 // And so many elements, of two words each.
 pub const MOST_ELEMENTS: usize = 75;
-
-// What a walk over damaged words says that it opened: with k = 2, there are as many slots as pixels.
-pub const MORE_THAN_SLOTS: u32 = LARGEST_MOST + 1;
 
 // A level above every root's: 01's m is at most 16.
 pub const LEVEL_ABOVE_ROOT: u32 = 17;

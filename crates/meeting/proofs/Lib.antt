@@ -1,6 +1,5 @@
 pub mod DistanceLaws
 pub mod PassedTo
-pub mod BestLaws
 pub mod SeenElements
 pub mod MetElements
 pub mod MetBlocks

@@ -1,8 +1,10 @@
 -- What the first i elements of a block add to the frontier.
+use Rattle.std.specs.Prelude.{Result, Ok, Err}
+use Rattle.std.specs.Result.{IsErr}
 use Prim.Native.Nat.{ℕ, ◌+◌, ◌≤◌, ◌<◌}
 use native.Mathlib.Omega.{arith}
-use mathlib.Core.Path.{◌≡◌, refl, ap, ◌∙◌}
-use mathlib.Core.Bool.{Bool, true, false, not, cond}
+use mathlib.Core.Path.{◌≡◌, refl, ap}
+use mathlib.Core.Bool.{Bool, true, false, not, cond, false≢true}
 use mathlib.Core.Logic.{inl, inr}
 use mathlib.Core.Option.{Option, none, some}
 use mathlib.Core.List.{List, [], ◌∷◌, ◌++◌}
@@ -13,22 +15,20 @@ use Rattle.pktree.specs.Elements.{Forest, empty, pixel, block_at, ◌⧺◌, unl
 use Rattle.pktree.specs.Tree.{BlockOf, block_of}
 use Rattle.pktree.proofs.WindowParts.{select_join, total_join}
 use Rattle.elements.specs.declared.Element.{Element}
-use Rattle.elements.specs.declared.Element.TheVariants.{Block}
-use Rattle.elements.specs.Element.{element_at}
+use Rattle.elements.specs.Element.{element_at, named}
+use Rattle.store.specs.declared.Damaged.{Damaged}
 use Rattle.store.specs.Placed.{Placed}
 use Rattle.store.proofs.PassedElements.{OneElement, is_pixel_lem, is_block}
 use Rattle.searching.specs.Distance.{squared_distance, block_distance}
 use Rattle.searching.specs.Search.{block_elements}
 use Rattle.searching.proofs.Pruned.{is_near}
 use Rattle.frontier.specs.declared.Entry.{Entry}
-use Rattle.frontier.specs.Entries.{entry, Heap}
-use Rattle.meeting.specs.declared.distance.Place.{Place}
-use Rattle.meeting.specs.declared.blocks.Meeting.{Meeting}
-use Rattle.meeting.specs.declared.blocks.Meeting.TheVariants.{Upto, Damaged}
+use Rattle.frontier.specs.Entries.{entry}
+use Rattle.meeting.specs.declared.place.Place.{Place}
 use Rattle.meeting.specs.Place.{place_code}
 use Rattle.meeting.specs.Best.{best_of}
 use Rattle.meeting.specs.Matching.{key_of, tag_of, EntryOf, Matches}
-use Rattle.meeting.specs.Meeting.{Frontier, frontier, entries, Added, new_entries, Impossible, MetElement, MetBlocks}
+use Rattle.meeting.specs.Meeting.{Added, new_entries, Impossible, MetElement, MetBlocks}
 use Rattle.meeting.proofs.PassedTo.{PassedTo, passed_none, passed_one, passed_all}
 
 pub blocks_join : (f g : Forest) → block_elements (f ⧺ g) ≡ block_elements f ++ block_elements g
@@ -58,7 +58,7 @@ module _ {k width slots : ℕ} {words : List ℕ} {level code : ℕ} where
       go true = (is, tt)
       go false = tt
 
-      by : (o : Option ℕ) → Matches width slots words place (select (is_near place o) (block_of i c (unlabelled fs) ∷ [])) (new_entries place o (Block s i c))
+      by : (o : Option ℕ) → Matches width slots words place (select (is_near place o) (block_of i c (unlabelled fs) ∷ [])) (new_entries place o (named s i c))
       by none = go true
       by (some p) = go (not (ltb (squared_distance place p) (block_distance place i c)))
 
@@ -67,14 +67,14 @@ module _ {k width slots : ℕ} {words : List ℕ} {level code : ℕ} where
   possible (is_block s i c fs child) (inl h) = omega (arith, child.below)
   possible (is_block s i c fs child) (inr h) = omega (arith, child.small)
 
-module _ {width slots : ℕ} {words : List ℕ} {place : ℕ} {o : Option ℕ} {s : Frontier} where
+module _ {width slots : ℕ} {words : List ℕ} {place : ℕ} {o : Option ℕ} {s : List Entry} where
   added_none : Added width slots words place o s empty s
   added_none = record { new = []; matched = tt; sum = λ number. omega arith }
 
   -- the elements f, then those of g with their entries
-  added_more : {f : Forest} {t u : Frontier} (g : Forest) (q : List Entry) → Added width slots words place o s f t
+  added_more : {f : Forest} {t u : List Entry} (g : Forest) (q : List Entry) → Added width slots words place o s f t
       → Matches width slots words place (select (is_near place o) (block_elements g)) q
-      → ((number : Entry → ℕ) → total number (entries u) ≡ total number q + total number (entries t)) → Added width slots words place o s (f ⧺ g) u
+      → ((number : Entry → ℕ) → total number u ≡ total number q + total number t) → Added width slots words place o s (f ⧺ g) u
   added_more {f} g q a m sum =
       record {
         new = a.new ++ q;
@@ -84,49 +84,37 @@ module _ {width slots : ℕ} {words : List ℕ} {place : ℕ} {o : Option ℕ} {
       }
 
 -- the frontier s became t by these elements, whichever pixel is found as far as this
-abbrev AddedFor : Place → ℕ → Frontier → Frontier → ℕ → ℕ → List ℕ → Forest → Type 0
+abbrev AddedFor : Place → ℕ → List Entry → List Entry → ℕ → ℕ → List ℕ → Forest → Type 0
 AddedFor place farthest s t width slots words f = (o : Option ℕ) → farthest ≡ (best_of (place_code place) o).distance → Added width slots words (place_code place) o s f t
 
 -- after so many of a block's elements
-pub record MetTo (part : List ℕ) (count above : ℕ) (place : Place) (farthest : ℕ) (keys tags keys' tags' : List ℕ) (met i n : ℕ) : Type 0 where
-  pub few : n ≤ met + i
-  pub heap : Heap keys' n
-  pub keys_long : length keys' ≡ length keys
-  pub tags_long : length tags' ≡ length tags
-  pub passed : PassedTo part count above i (AddedFor place farthest (frontier keys tags met) (frontier keys' tags' n))
+pub record MetTo (part : List ℕ) (count above : ℕ) (place : Place) (farthest : ℕ) (before after : List Entry) (i : ℕ) : Type 0 where
+  pub few : length after ≤ length before + i
+  pub passed : PassedTo part count above i (AddedFor place farthest before after)
 
-module _ {part : List ℕ} {count above : ℕ} {place : Place} {farthest : ℕ} {keys tags : List ℕ} {met : ℕ} where
-  pub met_none : Heap keys met → MetTo part count above place farthest keys tags keys tags met 0 met
-  met_none heap =
-      record { few = omega arith; heap = heap; keys_long = refl; tags_long = refl; passed = passed_none _ (λ width slots words o e. added_none) }
+module _ {part : List ℕ} {count above : ℕ} {place : Place} {farthest : ℕ} {before : List Entry} where
+  pub met_none : MetTo part count above place farthest before before 0
+  met_none = record { few = omega arith; passed = passed_none _ (λ width slots words o e. added_none) }
 
-  -- an element's outcome goes on from the arrays that those before it left
-  module _ {keys₁ tags₁ keys₂ tags₂ : List ℕ} {i n : ℕ} {x : Element} {r : Meeting} (below : i < count) (to : MetTo part count above place farthest keys tags keys₁ tags₁ met i n)
-      (is : x ≡ element_at part i) where
-    pub met_one : {m : ℕ} → r ≡ Upto m → MetElement x above place farthest keys₁ tags₁ keys₂ tags₂ n r → MetTo part count above place farthest keys tags keys₂ tags₂ met (i + 1) m
-    met_one {m} e met =
-        let one : MetElement (element_at part i) above place farthest keys₁ tags₁ keys₂ tags₂ n (Upto m) = rw (is, e) at met in
+  -- an element's outcome goes on from the frontier that those before it left
+  module _ {now after : List Entry} {i : ℕ} {x : Element} (below : i < count) (to : MetTo part count above place farthest before now i) (is : x ≡ element_at part i) where
+    pub met_one : {u : Unit {0}} → MetElement x above place farthest now after (Ok u) → MetTo part count above place farthest before after (i + 1)
+    met_one {u} met =
+        let one : MetElement (element_at part i) above place farthest now after (Ok u) = rw is at met in
         record {
           few = omega (arith, to.few, one.case.0);
-          heap = one.case.1;
-          keys_long = one.keys_long ∙ to.keys_long;
-          tags_long = one.tags_long ∙ to.tags_long;
           passed = passed_one to.passed _ below (λ k width slots words code f g at done o h.
-              added_more (unlabelled g) (new_entries (place_code place) o (element_at part i)) (done o h) (one_matched (place_code place) o at) (one.case.2 o h));
+              added_more (unlabelled g) (new_entries (place_code place) o (element_at part i)) (done o h) (one_matched (place_code place) o at) (one.case.1 o h));
         }
 
     -- no element of a block of a sound store is refused
-    pub met_damaged : r ≡ Damaged → MetElement x above place farthest keys₁ tags₁ keys₂ tags₂ n r → MetBlocks part count above place farthest keys tags keys₂ tags₂ met Damaged
-    met_damaged e met =
-        let one : MetElement (element_at part i) above place farthest keys₁ tags₁ keys₂ tags₂ n Damaged = rw (is, e) at met in
+    pub met_damaged : {d : Damaged} → MetElement x above place farthest now after (Err d) → (r : Result (Unit {0}) Damaged) → IsErr r
+        → MetBlocks part count above place farthest before after r
+    met_damaged met (Ok u) h = absurd (false≢true h)
+    met_damaged {d} met (Err _) h =
+        let one : MetElement (element_at part i) above place farthest now after (Err d) = rw is at met in
         let never = passed_one to.passed (λ width slots words f. ⊥) below (λ k width slots words code f g at done. possible at one.case) in
-        record {
-          keys_long = one.keys_long ∙ to.keys_long;
-          tags_long = one.tags_long ∙ to.tags_long;
-          case = λ width slots words es shown. (never.passed width slots words es shown).done;
-        }
+        record { case = λ width slots words es shown. (never.passed width slots words es shown).done }
 
-  pub met_all : {keys₁ tags₁ : List ℕ} {i n : ℕ} → i ≤ count → count ≤ i → MetTo part count above place farthest keys tags keys₁ tags₁ met i n
-      → MetBlocks part count above place farthest keys tags keys₁ tags₁ met (Upto n)
-  met_all within end to =
-      record { keys_long = to.keys_long; tags_long = to.tags_long; case = (omega (arith, to.few), to.heap, passed_all to.passed end) }
+  pub met_all : {now : List Entry} {i : ℕ} → i ≤ count → count ≤ i → MetTo part count above place farthest before now i → MetBlocks part count above place farthest before now (Ok tt)
+  met_all within end to = record { case = (omega (arith, to.few), passed_all to.passed end) }

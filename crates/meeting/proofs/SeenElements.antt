@@ -5,14 +5,14 @@ use mathlib.Core.Option.{Option}
 use mathlib.Core.List.{List, ◌∷◌, ◌++◌}
 use Rattle.pktree.specs.Elements.{Forest, empty, pixel, block_at, ◌⧺◌, unlabelled}
 use Rattle.elements.specs.declared.Element.{Element}
-use Rattle.elements.specs.declared.Element.TheVariants.{Pixel, Block}
-use Rattle.elements.specs.Element.{element_at}
+use Rattle.elements.specs.declared.Element.TheVariants.{Pixel}
+use Rattle.elements.specs.Element.{element_at, named}
 use Rattle.store.specs.Placed.{Placed}
 use Rattle.store.proofs.PassedElements.{OneElement, is_pixel_lem, is_block}
 use Rattle.searching.specs.Search.{pixel_elements, nearest_of}
 use Rattle.searching.proofs.NearestPixel.{nearest_append}
 use Rattle.meeting.specs.declared.best.Best.{Best}
-use Rattle.meeting.specs.declared.distance.Place.{Place}
+use Rattle.meeting.specs.declared.place.Place.{Place}
 use Rattle.meeting.specs.Place.{place_code}
 use Rattle.meeting.specs.Best.{best_of, AfterPixel, nearer_element, AfterElement, AfterElements}
 use Rattle.meeting.proofs.PassedTo.{PassedTo, passed_none, passed_one, passed_all}
@@ -21,7 +21,7 @@ module _ {place : Place} {best : Best} {element : Element} where
   pub pixel_seen : {code : ℕ} {r : Best} → element ≡ Pixel code → AfterPixel place best code r → AfterElement place best element r
   pixel_seen e after = record { says = λ o h. rw e (after.says o h) }
 
-  pub block_seen : {slot level code : ℕ} → element ≡ Block slot level code → AfterElement place best element best
+  pub block_seen : {slot level code : ℕ} → element ≡ named slot level code → AfterElement place best element best
   block_seen e = record { says = λ o h. rw e h }
 
 -- the nearest pixel is r after these elements

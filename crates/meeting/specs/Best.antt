@@ -8,7 +8,7 @@ use Rattle.store.specs.Placed.{Placed}
 use Rattle.searching.specs.Distance.{squared_distance}
 use Rattle.searching.specs.Search.{pixel_elements, nearer, nearest_of}
 use Rattle.meeting.specs.declared.best.Best.{Best}
-use Rattle.meeting.specs.declared.distance.Place.{Place}
+use Rattle.meeting.specs.declared.place.Place.{Place}
 use Rattle.meeting.specs.Place.{place_code, beyond}
 use Rattle.meeting.specs.Shown.{Shown}
 
@@ -21,7 +21,7 @@ pub record AfterPixel (place : Place) (best : Best) (code : ℕ) (r : Best) : Ty
 
 abbrev pub nearer_element : ℕ → Option ℕ → Element → Option ℕ
 nearer_element place o (Pixel code) = nearer place o code
-nearer_element place o (Block slot level code) = o
+nearer_element place o (Block block) = o
 
 pub record AfterElement (place : Place) (best : Best) (element : Element) (r : Best) : Type 0 where
   pub says : (o : Option ℕ) → best ≡ best_of (place_code place) o → r ≡ best_of (place_code place) (nearer_element (place_code place) o element)

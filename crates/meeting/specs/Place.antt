@@ -1,19 +1,13 @@
 -- The place of a search, and the distances from it.
 use Rattle.std.specs.Prelude.{ℕ, ◌+◌, ◌*◌, ◌<◌, ◌≡◌}
 use Rattle.morton.specs.Code.{code_of}
-use Rattle.morton.specs.Coordinate.{largest_side}
 use Rattle.searching.specs.Distance.{squared_distance, block_distance}
-use Rattle.meeting.specs.declared.distance.Place.{Place}
-
-pub record OnGrid (place : Place) : Type 0 where
-  pub x_below : place.x < largest_side
-  pub y_below : place.y < largest_side
+use Rattle.meeting.specs.declared.place.Place.{Place}
 
 abbrev pub place_code : Place → ℕ
 place_code place = code_of place.x place.y
 
 pub record PlaceOf (code : ℕ) (place : Place) : Type 0 where
-  pub on_grid : OnGrid place
   pub code_is : place_code place ≡ code
 
 -- 2 ^ 33: a squared distance is below it

@@ -1,9 +1,9 @@
 ghost use Rattle.std.specs.Prelude.{◌≤◌, length};
 ghost use Rattle.measures.specs.Slot.{element_index};
-ghost use Rattle.meeting.specs.Place.{OnGrid};
 ghost use Rattle.meeting.specs.Best.{AfterPixel, AfterElement, AfterElements};
 
-use crate::distance::{Place, pixel_distance};
+use crate::distance::pixel_distance;
+use crate::place::Place;
 use elements::{Element, element_at};
 
 // More than any squared distance.
@@ -23,7 +23,6 @@ pub const NOTHING: Best = Best {
 };
 
 fn after_pixel(place: Place, best: Best, code: u32) -> Best
-    requires { OnGrid place }
     ensures { AfterPixel place best code result }
 {
     let distance = pixel_distance(place, code);
@@ -40,7 +39,6 @@ fn after_pixel(place: Place, best: Best, code: u32) -> Best
 }
 
 fn after_element(place: Place, best: Best, element: Element) -> Best
-    requires { OnGrid place }
     ensures { AfterElement place best element result }
 {
     let Element::Pixel(code) = element else {
@@ -51,7 +49,7 @@ fn after_element(place: Place, best: Best, element: Element) -> Best
 
 // The nearest pixel after the elements of one block.
 pub fn after_elements(place: Place, best: Best, part: &[u32], count: usize) -> Best
-    requires { OnGrid place × (element_index count ≤ length part.now) }
+    requires { element_index count ≤ length part.now }
     ensures { AfterElements place best part.now count result }
 {
     let mut nearest = best;

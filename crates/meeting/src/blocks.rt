@@ -1,20 +1,14 @@
 ghost use Rattle.std.specs.Prelude.{◌+◌, ◌≤◌, ◌<◌, length};
 ghost use Rattle.measures.specs.Slot.{element_index};
 ghost use Rattle.elements.specs.Element.{tag_slots};
-ghost use Rattle.frontier.specs.Entries.{Heap};
-ghost use Rattle.meeting.specs.Place.{OnGrid, beyond};
+ghost use Rattle.meeting.specs.Place.{beyond};
 ghost use Rattle.meeting.specs.Meeting.{KeyIs, TagIs, MetElement, MetBlocks};
 
-use crate::distance::{Place, block_distance};
+use crate::distance::block_distance;
+use crate::place::Place;
 use elements::{Element, TAG_SLOTS, element_at};
-use frontier::push;
-
-// After some elements: the blocks met are now so many; or the words are damaged.
-#[derive(Clone, Copy)]
-pub enum Meeting {
-    Upto(usize),
-    Damaged,
-}
+use frontier::{Entry, Frontier};
+use store::Damaged;
 
 // A block's code is a multiple of 4: a key has room for a fourth of the codes below the distance.
 pub const KEY_CODES: u64 = 1073741824;
@@ -24,7 +18,7 @@ pub fn key_of(distance: u64, code: u32) -> u64
     requires { distance < beyond }
     ensures { KeyIs distance code result }
 {
-    distance * KEY_CODES + (code / 4) as u64
+    distance * KEY_CODES + u64::from(code / 4)
 }
 
 pub fn tag_of(slot: u32, level: u32) -> u32
@@ -35,63 +29,49 @@ pub fn tag_of(slot: u32, level: u32) -> u32
 }
 
 // A block farther than the pixel found is not kept: it will never be opened, nor be the limit.
-fn meet_element(
+fn meet_element<const N: usize>(
     element: Element,
     above: u32,
     place: Place,
     farthest: u64,
-    keys: &mut [u64],
-    tags: &mut [u32],
-    met: usize,
-) -> Meeting
-    requires { OnGrid place × (above ≤ 16) × (met < length keys.old) × (met < length tags.old) × Heap keys.old met }
-    ensures { MetElement element above place farthest keys.old tags.old keys.new tags.new met result }
+    frontier: &mut Frontier<N>,
+) -> Result<(), Damaged>
+    requires { (above ≤ 16) × (length frontier.old < N) }
+    ensures { MetElement element above place farthest frontier.old frontier.new result }
 {
-    let Element::Block(slot, level, code) = element else {
-        return Meeting::Upto(met);
+    let Element::Block(block) = element else {
+        return Ok(());
     };
-    if above <= level {
-        return Meeting::Damaged;
+    if above <= block.level {
+        return Err(Damaged);
     }
-    if TAG_SLOTS <= slot {
-        return Meeting::Damaged;
+    if TAG_SLOTS <= block.slot {
+        return Err(Damaged);
     }
-    let distance = block_distance(place, level, code);
+    let distance = block_distance(place, block.level, block.code);
     if farthest < distance {
-        return Meeting::Upto(met);
+        return Ok(());
     }
-    push(keys, tags, met, key_of(distance, code), tag_of(slot, level));
-    Meeting::Upto(met + 1)
+    let key = key_of(distance, block.code);
+    let tag = tag_of(block.slot, block.level);
+    frontier.push(Entry { key, tag });
+    Ok(())
 }
 
 // The elements of one block that are blocks are met; there is room for all of them.
-pub fn meet_blocks(
+pub fn meet_blocks<const N: usize>(
     part: &[u32],
     count: usize,
     above: u32,
     place: Place,
     farthest: u64,
-    keys: &mut [u64],
-    tags: &mut [u32],
-    met: usize,
-) -> Meeting
-    requires { (OnGrid place × (above ≤ 16) × (met + count ≤ length keys.old) × (met + count ≤ length tags.old) × Heap keys.old met) × (element_index count ≤ length part.now) }
-    ensures { MetBlocks part.now count above place farthest keys.old tags.old keys.new tags.new met result }
+    frontier: &mut Frontier<N>,
+) -> Result<(), Damaged>
+    requires { (above ≤ 16) × (length frontier.old + count ≤ N) × (element_index count ≤ length part.now) }
+    ensures { MetBlocks part.now count above place farthest frontier.old frontier.new result }
 {
-    let mut upto = met;
     for i in 0..count {
-        match meet_element(
-            element_at(part, i),
-            above,
-            place,
-            farthest,
-            keys,
-            tags,
-            upto,
-        ) {
-            Meeting::Upto(n) => upto = n,
-            Meeting::Damaged => return Meeting::Damaged,
-        }
+        meet_element(element_at(part, i), above, place, farthest, frontier)?;
     }
-    Meeting::Upto(upto)
+    Ok(())
 }

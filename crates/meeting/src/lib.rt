@@ -4,3 +4,4 @@
 pub mod best;
 pub mod blocks;
 pub mod distance;
+pub mod place;

@@ -4,6 +4,7 @@ use native.Mathlib.Nat.{one-le-pow, pow-succ', div-div-eq-div-mul}
 use lib.Arith.{mod-mul}
 use lib.Bits.{bit_or, or_block, or_shifted_r}
 use Rattle.morton.specs.Coordinate.{largest_side}
+pub use Rattle.morton.specs.Axis.{gather_below}
 use Rattle.morton.specs.Code.{spread_bits, gather_bits, interleave, code_of, x_of, y_of}
 
 -- the lowest digit to the base b, and the rest
@@ -63,11 +64,6 @@ pub spread_below : (n x : ℕ) → 3 * spread_bits n x < 4 ^ n
 unfolding spread_bits
 spread_below zero x = omega arith
 spread_below (suc n) x = omega (arith, pow-suc 4 n, spread_below n (x / 2))
-
-pub gather_below : (n c : ℕ) → gather_bits n c < 2 ^ n
-unfolding gather_bits
-gather_below zero c = omega arith
-gather_below (suc n) c = omega (arith, pow-suc 2 n, gather_below n (c / 4))
 
 gather_within : (n m c : ℕ) → c < 4 ^ m → gather_bits n c < 2 ^ m
 unfolding gather_bits

@@ -1,28 +1,12 @@
--- The bits of a coordinate, spread, ascend as the coordinate does: so codes are compared on one axis through a mask.
-use Rattle.std.proofs.Common.{◌≡◌, ℕ, zero, suc, ◌+◌, ◌*◌, ◌/◌, ◌%◌, ◌^◌, ◌<◌, ◌≤◌, Bool, ◌&&◌, leb, sym, ap, ◌∙◌, ap₂, mod-lt, pow-suc, arith, le-leb}
+-- What the masks leave of a code, and that codes are compared on one axis by what one of them leaves.
+use Rattle.std.proofs.Common.{◌≡◌, ℕ, ◌+◌, ◌*◌, ◌/◌, ◌%◌, ◌^◌, ◌<◌, ◌≤◌, Bool, ◌&&◌, leb, sym, ap, ◌∙◌, ap₂, mod-lt, arith, le-leb}
 use native.Mathlib.Decide.{dec_lt}
 use lib.Pow.{split}
 use lib.Bits.{bit_and, and_block, and_zero_r}
 use borrow.Author.Tests.{lt-leb}
-use Rattle.morton.specs.Coordinate.{largest_side, Between}
+use Rattle.morton.specs.Coordinate.{Ascends, largest_side, Between}
 use Rattle.morton.specs.Code.{spread_bits, x_of, y_of}
 use Rattle.morton.proofs.Fields.{evens, laid_bits, even_bits}
-
--- on numbers of n bits, f ascends
-abbrev Ascends : ℕ → (ℕ → ℕ) → Type 0
-Ascends n f = (a b : ℕ) → b < 2 ^ n → a < b → f a < f b
-
-pub spread_ascends : (n : ℕ) → Ascends n (spread_bits n)
-unfolding spread_bits
-spread_ascends zero a b hb h = absurd (omega arith)
-spread_ascends (suc n) a b hb h = go (dec_lt (a / 2) (b / 2)) (spread_ascends n (a / 2) (b / 2) (omega (arith, pow-suc 2 n)))
-  where
-    go : Dec (a / 2 < b / 2) → (a / 2 < b / 2 → spread_bits n (a / 2) < spread_bits n (b / 2)) → 4 * spread_bits n (a / 2) + a % 2 < 4 * spread_bits n (b / 2) + b % 2
-    go (yes p) f = omega (arith, f p)
-    go (no p) f = let e : a / 2 ≡ b / 2 = omega arith in omega (arith, ap (spread_bits n) e)
-
-pub odd_spread_ascends : (n : ℕ) → Ascends n (λ a. spread_bits n a * 2)
-odd_spread_ascends n a b hb h = omega (arith, spread_ascends n a b hb h)
 
 -- what the masks leave of a code
 pub even_mask : (c : ℕ) → bit_and c 0x5555_5555 ≡ spread_bits 16 (x_of c)

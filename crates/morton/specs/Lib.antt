@@ -2,3 +2,4 @@ pub mod Code
 pub mod Coordinate
 pub mod CommonLevel
 pub mod LastCode
+pub mod Axis

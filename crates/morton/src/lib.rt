@@ -1,8 +1,9 @@
 #![tactic(auto)]
 
-ghost use Rattle.std.specs.Prelude.{◌≡◌, ◌*◌, ◌/◌, ◌^◌, ◌<◌, ◌≤◌, nat_le};
+ghost use Rattle.std.specs.Prelude.{◌≡◌, ℕ, ◌+◌, ◌*◌, ◌/◌, ◌^◌, ◌<◌, ◌≤◌, nat_le};
+ghost use Rattle.morton.specs.Axis.{gather_below, odd_spread_ascends, spread_ascends};
 ghost use Rattle.morton.specs.Code.{spread_bits, gather_bits, code_of, x_of, y_of};
-ghost use Rattle.morton.specs.Coordinate.{Between, Coordinate, largest_side};
+ghost use Rattle.morton.specs.Coordinate.{Ascends, Between, Coordinate, largest_side};
 ghost use Rattle.morton.specs.CommonLevel.{CommonLevel};
 ghost use Rattle.morton.specs.LastCode.{LastCode};
 
@@ -56,30 +57,64 @@ fn is_between(first: u32, last: u32, n: u32) -> bool
     wrapping_sub_u32(n, first) <= wrapping_sub_u32(last, first)
 }
 
-// Coordinates are compared in their codes: the bits of x at even places ascend as x does.
-pub fn x_between(first: u32, last: u32, code: u32) -> bool
-    ensures { Between (x_of first) (x_of last) (x_of code) result }
-{
-    is_between(first & 0x5555_5555, last & 0x5555_5555, code & 0x5555_5555)
+// An axis of the panel: coordinates on it are compared in their codes, since the bits that one has there ascend as it does.
+pub trait Axis {
+    ghost coordinate: { ℕ → ℕ };
+
+    ghost spread: { ℕ → ℕ };
+
+    // The bits of a code that are the coordinate's.
+    fn bits(code: u32) -> u32
+        ensures { result ≡ spread (coordinate code) };
+
+    ghost ascends: { Ascends 16 spread };
+
+    ghost below: { (code : ℕ) → coordinate code < largest_side };
 }
 
-pub fn y_between(first: u32, last: u32, code: u32) -> bool
-    ensures { Between (y_of first) (y_of last) (y_of code) result }
-{
-    is_between(first & 0xaaaa_aaaa, last & 0xaaaa_aaaa, code & 0xaaaa_aaaa)
+pub struct X;
+
+impl Axis for X {
+    ghost coordinate = { x_of };
+
+    ghost spread = { spread_bits 16 };
+
+    fn bits(code: u32) -> u32 {
+        code & 0x5555_5555
+    }
+
+    ghost ascends = { spread_ascends 16 };
+
+    ghost below = { λ code. gather_below 16 code };
 }
 
-// Where a block may lie on either side of a window no bounds are in order, which the tests above ask for.
-pub fn x_at_most(a: u32, b: u32) -> bool
-    ensures { result ≡ nat_le (x_of a) (x_of b) }
-{
-    (a & 0x5555_5555) <= (b & 0x5555_5555)
+pub struct Y;
+
+impl Axis for Y {
+    ghost coordinate = { y_of };
+
+    ghost spread = { λ n. spread_bits 16 n * 2 };
+
+    fn bits(code: u32) -> u32 {
+        code & 0xaaaa_aaaa
+    }
+
+    ghost ascends = { odd_spread_ascends 16 };
+
+    ghost below = { λ code. gather_below 16 (code / 2) };
 }
 
-pub fn y_at_most(a: u32, b: u32) -> bool
-    ensures { result ≡ nat_le (y_of a) (y_of b) }
+pub fn between<A: Axis>(first: u32, last: u32, code: u32) -> bool
+    ensures { Between (A.coordinate first) (A.coordinate last) (A.coordinate code) result }
 {
-    (a & 0xaaaa_aaaa) <= (b & 0xaaaa_aaaa)
+    is_between(A::bits(first), A::bits(last), A::bits(code))
+}
+
+// Where a block may lie on either side of a window no bounds are in order, which the test above asks for.
+pub fn at_most<A: Axis>(a: u32, b: u32) -> bool
+    ensures { result ≡ nat_le (A.coordinate a) (A.coordinate b) }
+{
+    A::bits(a) <= A::bits(b)
 }
 
 // The last code of the block of this level with this code: all low bits are set, at level 16 all 32.
@@ -95,6 +130,14 @@ pub fn block_size(level: u32) -> usize
     ensures { result ≡ 4 ^ level }
 {
     1usize << (2 * level)
+}
+
+// The first code past a block.
+pub fn block_end(level: u32, code: usize) -> usize
+    requires { (level ≤ 16) × (code ≤ 4294967296) }
+    ensures { result ≡ code + 4 ^ level }
+{
+    code + block_size(level)
 }
 
 // Which block of this level, in ascending order, a code lies in: its low bits shifted out.

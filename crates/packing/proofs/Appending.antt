@@ -10,13 +10,12 @@ use Rattle.pktree.proofs.Forests.{block_count, block_count_join, size_join, pixe
 use Rattle.pktree.proofs.Alignment.{block_code, block_code_le, block_of_block_code}
 use Rattle.pktree.proofs.Arranged.{arranged_upper}
 use Rattle.morton.specs.CommonLevel.{CommonLevel}
-use Rattle.measures.specs.declared.sizes.Sizes.{Sizes}
-use Rattle.measures.specs.declared.sizes.Layout.{Layout}
 use Rattle.store.specs.Placed.{Placed, slots_of}
 use Rattle.freeslots.specs.FreeSlots.{occurrences}
 use Rattle.store.proofs.Standing.{element_words}
 use Rattle.store.proofs.PlacedJoin.{slots_join, words_join, stands_join}
 use Rattle.packing.specs.declared.Build.{Build}
+use Rattle.packing.specs.declared.plan.Plan.{Plan}
 use Rattle.packing.specs.Growing.{OnlyAround, most_open, stack_words}
 use Rattle.packing.specs.Build.{PushDue, PushedCode, Grown, PackCompleteAt, PackCompleteDue, CompletePacked, PackCompleteDone, Building, AppendDue, AppendDone}
 use Rattle.packing.proofs.Growth.{div_mono, open_around_next, pushed}
@@ -35,9 +34,9 @@ ends_before x d j l ne =
     omega (arith, mul-le-mul_right (4 ^ j) q, block_code_le j d)
 
 -- elements below a code are below a later one
-pub grown_more : {sizes : Sizes} {layout : Layout} {words stack : List ℕ} {build : Build} {to : ℕ} (d : ℕ) {codes : List ℕ} → to ≤ d
-    → Grown sizes layout words stack build to codes → Grown sizes layout words stack build d codes
-grown_more {sizes} {to = to} d l g = record {
+pub grown_more : {plan : Plan} {words stack : List ℕ} {build : Build} {to : ℕ} (d : ℕ) {codes : List ℕ} → to ≤ d
+    → Grown plan words stack build to codes → Grown plan words stack build d codes
+grown_more {plan} {to = to} d l g = record {
   placed = g.placed;
   many = g.many;
   on_stack = g.on_stack;
@@ -45,34 +44,34 @@ grown_more {sizes} {to = to} d l g = record {
   numbers = g.numbers;
   fresh_is = g.fresh_is;
   numbered = g.numbered;
-  opened = record { arranged = arranged_upper sizes.k sizes.order 0 to d g.placed l g.opened.arranged; reach = g.opened.reach; others = g.opened.others };
+  opened = record { arranged = arranged_upper plan.sizes.k plan.sizes.order 0 to d g.placed l g.opened.arranged; reach = g.opened.reach; others = g.opened.others };
   codes_are = g.codes_are;
 }
 
-module _ {sizes : Sizes} {layout : Layout} {words stack : List ℕ} {build : Build} {code level : ℕ} {done later : List ℕ} (b : Building sizes layout words stack build done (code ∷ later))
+module _ {plan : Plan} {words stack : List ℕ} {build : Build} {code level : ℕ} {done later : List ℕ} (b : Building plan words stack build done (code ∷ later))
     (common : CommonLevel build.last code level) where
   last_below : build.last ≤ code
   last_below = omega (arith, b.ascending.0, b.last_below)
 
   -- the blocks around the last code below the common level do not hold this one
-  pack_at : PackCompleteAt sizes layout words stack build level code done
+  pack_at : PackCompleteAt plan words stack build level code done
   pack_at = record {
     ground = b.ground;
     grown = grown_more code b.ascending.0 b.grown;
     room = omega (arith, b.room);
-    limit_to = common.least sizes.order (div-eq_of_lt b.last_inside ∙ sym (div-eq_of_lt b.on_panel.0));
+    limit_to = common.least plan.sizes.order (div-eq_of_lt b.last_inside ∙ sym (div-eq_of_lt b.on_panel.0));
     complete = λ j l. ends_before build.last code j last_below (λ e. omega (arith, common.least j e));
   }
 
-  module _ {words' stack' : List ℕ} {r : Build} (packed : PackCompleteDone sizes layout build level words words' stack stack' r) where
-    after : CompletePacked sizes layout words' stack' r level code done
+  module _ {words' stack' : List ℕ} {r : Build} (packed : PackCompleteDone plan build level words words' stack stack' r) where
+    after : CompletePacked plan words' stack' r level code done
     after = packed.right code done pack_at
 
     abbrev placed : Placed
     placed = after.grown.placed
 
-    around : OnlyAround sizes.k sizes.order code placed
-    around = open_around_next sizes.k sizes.order r.last code code level placed after.grown.opened after.few
+    around : OnlyAround plan.sizes.k plan.sizes.order code placed
+    around = open_around_next plan.sizes.k plan.sizes.order r.last code code level placed after.grown.opened after.few
         (λ j l. rw packed.last_is (common_above build.last code level j l common.common))
 
     stack_same : length stack' ≡ stack_words
@@ -83,7 +82,7 @@ module _ {sizes : Sizes} {layout : Layout} {words stack : List ℕ} {build : Bui
         omega (
           arith,
           after.grown.many,
-          few_open sizes.k sizes.order code placed b.ground.valid.panel.k_to b.ground.valid.panel.order_to b.on_panel.0 after.grown.opened.arranged around,
+          few_open plan.sizes.k plan.sizes.order code placed plan.valid.panel.k_to plan.valid.panel.order_to b.on_panel.0 after.grown.opened.arranged around,
         )
 
     room_to_push : PushDue stack' r
@@ -96,26 +95,24 @@ module _ {sizes : Sizes} {layout : Layout} {words stack : List ℕ} {build : Bui
       blocks_same : block_count (placed ⧺ one) ≡ block_count placed
       blocks_same = omega (arith, block_count_join placed one)
 
-      appended : Grown sizes layout words' stack'' r' (suc code) (done ++ (code ∷ []))
+      appended : Grown plan words' stack'' r' (suc code) (done ++ (code ∷ []))
       appended = record {
         placed = placed ⧺ one;
         many = omega (arith, put.count_is, size_join placed one, after.grown.many);
         on_stack = rw (put.stack_is, put.count_is)
             (two_set stack' r.count code 0 (omega (arith, room_to_push.there)) ∙ ap (λ (l : List ℕ). l ++ element_words one) after.grown.on_stack ∙ sym (words_join placed one));
-        stands = stands_join layout.width words' placed one after.grown.stands tt;
-        numbers = tree_numbers_join layout.width words' placed one after.grown.numbers tt;
+        stands = stands_join plan.layout.width words' placed one after.grown.stands tt;
+        numbers = tree_numbers_join plan.layout.width words' placed one after.grown.numbers tt;
         fresh_is = omega (arith, put.fresh_is, after.grown.fresh_is, blocks_same);
         numbered = λ s. rw blocks_same (ap (occurrences s) (slots_join placed one ∙ append-nil (slots_of placed)) ∙ after.grown.numbered s);
         opened = rw put.last_is
-            (pushed sizes.k sizes.order r.last code placed (rw packed.last_is last_below) after.grown.opened.arranged after.grown.opened.reach around);
+            (pushed plan.sizes.k plan.sizes.order r.last code placed (rw packed.last_is last_below) after.grown.opened.arranged after.grown.opened.reach around);
         codes_are = pixels_join placed one ∙ ap (λ (l : List ℕ). l ++ (code ∷ [])) after.grown.codes_are;
       }
 
-      built_on : Building sizes layout words' stack'' r' (done ++ (code ∷ [])) later
+      built_on : Building plan words' stack'' r' (done ++ (code ∷ [])) later
       built_on = record {
         ground = record {
-          valid = b.ground.valid;
-          laid = b.ground.laid;
           fits = record { within = b.ground.fits.within; lies = rw packed.beside.long b.ground.fits.lies };
           stack_long = rw put.stack_is (simp length-set stack_same);
         };
@@ -130,23 +127,23 @@ module _ {sizes : Sizes} {layout : Layout} {words stack : List ℕ} {build : Bui
       }
 
 -- the same of what code is due
-pub stack_lies : {sizes : Sizes} {layout : Layout} {words stack : List ℕ} {build : Build} {code : ℕ} → AppendDue sizes layout words stack build code → 2 * build.count ≤ length stack
+pub stack_lies : {plan : Plan} {words stack : List ℕ} {build : Build} {code : ℕ} → AppendDue plan words stack build code → 2 * build.count ≤ length stack
 stack_lies due = grown_lies due.building.grown
 
-pub k_counts : {sizes : Sizes} {layout : Layout} {words stack : List ℕ} {build : Build} {code k : ℕ} → AppendDue sizes layout words stack build code → k ≡ sizes.k → 1 ≤ k
-k_counts due e = omega (arith, due.building.ground.valid.panel.k_from)
+pub k_counts : {plan : Plan} {words stack : List ℕ} {build : Build} {code k : ℕ} → AppendDue plan words stack build code → k ≡ plan.sizes.k → 1 ≤ k
+k_counts {plan} due e = omega (arith, plan.valid.panel.k_from)
 
-module _ {sizes : Sizes} {layout : Layout} {words stack : List ℕ} {build : Build} {code level : ℕ} (due : AppendDue sizes layout words stack build code)
+module _ {plan : Plan} {words stack : List ℕ} {build : Build} {code level : ℕ} (due : AppendDue plan words stack build code)
     (common : CommonLevel build.last code level) where
-  pub pack_complete_due : PackCompleteDue sizes layout words stack build level
+  pub pack_complete_due : PackCompleteDue plan words stack build level
   pack_complete_due = record { to = code; codes = due.done; due = pack_at due.building common }
 
-  module _ {words' stack' : List ℕ} {r : Build} (packed : PackCompleteDone sizes layout build level words words' stack stack' r) where
+  module _ {words' stack' : List ℕ} {r : Build} (packed : PackCompleteDone plan build level words words' stack stack' r) where
     pub push_due : PushDue stack' r
     push_due = room_to_push due.building common packed
 
-pub append_done : {sizes : Sizes} {layout : Layout} {words stack words' stack' stack'' : List ℕ} {build r r' : Build} {code level : ℕ} → CommonLevel build.last code level
-    → PackCompleteDone sizes layout build level words words' stack stack' r → PushedCode r code stack' stack'' r' → AppendDone sizes layout build code words words' stack stack'' r'
+pub append_done : {plan : Plan} {words stack words' stack' stack'' : List ℕ} {build r r' : Build} {code level : ℕ} → CommonLevel build.last code level
+    → PackCompleteDone plan build level words words' stack stack' r → PushedCode r code stack' stack'' r' → AppendDone plan build code words words' stack stack'' r'
 append_done common packed put = record {
   beside = packed.beside;
   stack_long = rw put.stack_is (simp length-set packed.stack_long);

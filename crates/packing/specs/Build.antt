@@ -9,10 +9,9 @@ use Rattle.pktree.proofs.Forests.{block_count}
 use Rattle.pktree.proofs.Alignment.{block_code}
 use Rattle.pktree.proofs.Regroup.{count_around}
 use Rattle.measures.specs.Words.{head_words}
-use Rattle.measures.specs.declared.sizes.Sizes.{Sizes}
 use Rattle.measures.specs.declared.sizes.Layout.{Layout}
-use Rattle.measures.specs.Sizes.{panel_of, ValidSizes}
-use Rattle.measures.specs.Layout.{LayoutFits, LaidOut, store_end}
+use Rattle.measures.specs.Sizes.{panel_of}
+use Rattle.measures.specs.Layout.{LayoutFits, store_end}
 use Rattle.measures.specs.Slot.{element_index}
 use Rattle.elements.specs.Element.{block_tag}
 use Rattle.store.specs.Placed.{Placed, slots_of}
@@ -21,6 +20,7 @@ use Rattle.sums.specs.Sum.{number_of_elements}
 use Rattle.store.proofs.Standing.{element_words, Stands}
 use Rattle.store.proofs.BlockNumbers.{TreeNumbers}
 use Rattle.packing.specs.declared.Build.{Build}
+use Rattle.packing.specs.declared.plan.Plan.{Plan}
 use Rattle.packing.specs.Growing.{Open, most_open, stack_words}
 use Rattle.laying.specs.Blocks.{BlockLaid}
 
@@ -34,12 +34,6 @@ pub record NothingToPack (k : ℕ) (stack : List ℕ) (build : Build) (limit : �
 
 pub record NoneComplete (k : ℕ) (stack : List ℕ) (build : Build) (limit : ℕ) (r : Bool) : Type 0 where
   pub says : r ≡ true → NothingToPack k stack build limit
-
--- r is the first of the elements before `from` that lie, with all after them, in the block of this level around the code
-pub record RunStart (stack : List ℕ) (from code level r : ℕ) : Type 0 where
-  pub within : r ≤ from
-  pub near : r < from → get_or stack (2 * r) 0 / 4 ^ level ≡ code / 4 ^ level
-  pub ends : 0 < r → get_or stack (2 * r - 2) 0 / 4 ^ level ≡ code / 4 ^ level → ⊥
 
 pub record PackDue (layout : Layout) (words stack : List ℕ) (build : Build) (first level : ℕ) : Type 0 where
   pub fits : LayoutFits layout words
@@ -75,22 +69,20 @@ pub record PushedCode (build : Build) (code : ℕ) (stack stack' : List ℕ) (r 
   pub last_is : r.last ≡ code
 
 -- what stays while a register is filled
-pub record Ground (sizes : Sizes) (layout : Layout) (words stack : List ℕ) : Type 0 where
-  pub valid : ValidSizes sizes
-  pub laid : LaidOut sizes layout
-  pub fits : LayoutFits layout words
+pub record Ground (plan : Plan) (words stack : List ℕ) : Type 0 where
+  pub fits : LayoutFits plan.layout words
   pub stack_long : length stack ≡ stack_words
 
 -- the first codes, built: the elements on the stack, below `to`, and the blocks among them, with their numbers, in slots 1, 2 and so on
-pub record Grown (sizes : Sizes) (layout : Layout) (words stack : List ℕ) (build : Build) (to : ℕ) (codes : List ℕ) : Type 0 where
+pub record Grown (plan : Plan) (words stack : List ℕ) (build : Build) (to : ℕ) (codes : List ℕ) : Type 0 where
   pub placed : Placed
   pub many : size placed ≡ build.count
   pub on_stack : take (2 * build.count) stack ≡ element_words placed
-  pub stands : Stands layout.width words placed
-  pub numbers : TreeNumbers layout.width words placed
+  pub stands : Stands plan.layout.width words placed
+  pub numbers : TreeNumbers plan.layout.width words placed
   pub fresh_is : build.fresh ≡ suc (block_count placed)
   pub numbered : (s : ℕ) → occurrences s (slots_of placed) ≡ occurrences s (numbers_from 1 (block_count placed))
-  pub opened : Open sizes.k sizes.order build.last to placed
+  pub opened : Open plan.sizes.k plan.sizes.order build.last to placed
   pub codes_are : pixels placed ≡ codes
 
 -- words 0 to 7 and those past the slots are as they were
@@ -100,48 +92,48 @@ pub record Beside (layout : Layout) (before after : List ℕ) : Type 0 where
   pub past : drop (store_end layout) after ≡ drop (store_end layout) before
 
 -- blocks around the last code below a level are complete: they end before `to`
-pub record PackCompleteAt (sizes : Sizes) (layout : Layout) (words stack : List ℕ) (build : Build) (limit to : ℕ) (codes : List ℕ) : Type 0 where
-  pub ground : Ground sizes layout words stack
-  pub grown : Grown sizes layout words stack build to codes
-  pub room : length codes ≤ sizes.most
-  pub limit_to : limit ≤ sizes.order
+pub record PackCompleteAt (plan : Plan) (words stack : List ℕ) (build : Build) (limit to : ℕ) (codes : List ℕ) : Type 0 where
+  pub ground : Ground plan words stack
+  pub grown : Grown plan words stack build to codes
+  pub room : length codes ≤ plan.sizes.most
+  pub limit_to : limit ≤ plan.sizes.order
   pub complete : (j : ℕ) → j < limit → block_code j build.last + 4 ^ j ≤ to
 
-pub record PackCompleteDue (sizes : Sizes) (layout : Layout) (words stack : List ℕ) (build : Build) (limit : ℕ) : Type 0 where
+pub record PackCompleteDue (plan : Plan) (words stack : List ℕ) (build : Build) (limit : ℕ) : Type 0 where
   pub to : ℕ
   pub codes : List ℕ
-  pub due : PackCompleteAt sizes layout words stack build limit to codes
+  pub due : PackCompleteAt plan words stack build limit to codes
 
 -- none of them has k elements on the stack
-pub record CompletePacked (sizes : Sizes) (layout : Layout) (words stack : List ℕ) (build : Build) (limit to : ℕ) (codes : List ℕ) : Type 0 where
-  pub grown : Grown sizes layout words stack build to codes
-  pub few : (i : ℕ) → i < limit → count_around i build.last grown.placed < sizes.k
+pub record CompletePacked (plan : Plan) (words stack : List ℕ) (build : Build) (limit to : ℕ) (codes : List ℕ) : Type 0 where
+  pub grown : Grown plan words stack build to codes
+  pub few : (i : ℕ) → i < limit → count_around i build.last grown.placed < plan.sizes.k
 
-pub record PackCompleteDone (sizes : Sizes) (layout : Layout) (build : Build) (limit : ℕ) (words words' stack stack' : List ℕ) (r : Build) : Type 0 where
-  pub beside : Beside layout words words'
+pub record PackCompleteDone (plan : Plan) (build : Build) (limit : ℕ) (words words' stack stack' : List ℕ) (r : Build) : Type 0 where
+  pub beside : Beside plan.layout words words'
   pub stack_long : length stack' ≡ length stack
   pub last_is : r.last ≡ build.last
-  pub right : (to : ℕ) (codes : List ℕ) → PackCompleteAt sizes layout words stack build limit to codes → CompletePacked sizes layout words' stack' r limit to codes
+  pub right : (to : ℕ) (codes : List ℕ) → PackCompleteAt plan words stack build limit to codes → CompletePacked plan words' stack' r limit to codes
 
 -- the first codes are built, and those to come are beyond them, on the panel, and have room
-pub record Building (sizes : Sizes) (layout : Layout) (words stack : List ℕ) (build : Build) (done later : List ℕ) : Type 0 where
-  pub ground : Ground sizes layout words stack
+pub record Building (plan : Plan) (words stack : List ℕ) (build : Build) (done later : List ℕ) : Type 0 where
+  pub ground : Ground plan words stack
   pub to : ℕ
-  pub grown : Grown sizes layout words stack build to done
-  pub to_inside : to ≤ 4 ^ sizes.order
-  pub last_inside : build.last < 4 ^ sizes.order
+  pub grown : Grown plan words stack build to done
+  pub to_inside : to ≤ 4 ^ plan.sizes.order
+  pub last_inside : build.last < 4 ^ plan.sizes.order
   pub last_below : build.last ≤ to
   pub ascending : Ascending to later
-  pub on_panel : Every (OnPanel (panel_of sizes)) later
-  pub room : length done + length later ≤ sizes.most
+  pub on_panel : Every (OnPanel (panel_of plan.sizes)) later
+  pub room : length done + length later ≤ plan.sizes.most
 
 -- the next code
-pub record AppendDue (sizes : Sizes) (layout : Layout) (words stack : List ℕ) (build : Build) (code : ℕ) : Type 0 where
+pub record AppendDue (plan : Plan) (words stack : List ℕ) (build : Build) (code : ℕ) : Type 0 where
   pub done : List ℕ
   pub later : List ℕ
-  pub building : Building sizes layout words stack build done (code ∷ later)
+  pub building : Building plan words stack build done (code ∷ later)
 
-pub record AppendDone (sizes : Sizes) (layout : Layout) (build : Build) (code : ℕ) (words words' stack stack' : List ℕ) (r : Build) : Type 0 where
-  pub beside : Beside layout words words'
+pub record AppendDone (plan : Plan) (build : Build) (code : ℕ) (words words' stack stack' : List ℕ) (r : Build) : Type 0 where
+  pub beside : Beside plan.layout words words'
   pub stack_long : length stack' ≡ length stack
-  pub right : (done later : List ℕ) → Building sizes layout words stack build done (code ∷ later) → Building sizes layout words' stack' r (done ++ (code ∷ [])) later
+  pub right : (done later : List ℕ) → Building plan words stack build done (code ∷ later) → Building plan words' stack' r (done ++ (code ∷ [])) later

@@ -4,13 +4,16 @@
 
 ghost use Rattle.std.specs.Prelude.{◌*◌, ◌+◌, ◌≤◌, ◌<◌, ◌≡◌, length};
 ghost use Rattle.packing.specs.Growing.{stack_words};
-ghost use Rattle.packing.specs.Build.{empty_build, NoneComplete, RunStart, PackDue, PackedRun, PushDue, PushedCode, PackCompleteDue, PackCompleteDone, AppendDue, AppendDone};
+ghost use Rattle.packing.specs.Build.{empty_build, NoneComplete, PackDue, PackedRun, PushDue, PushedCode, PackCompleteDue, PackCompleteDone, AppendDue, AppendDone};
 
-use elements::block_tag;
+pub mod plan;
+
+use crate::plan::Plan;
+use elements::{block_tag, run_start};
 use laying::lay_block;
-use measures::sizes::{Layout, Sizes};
+use measures::sizes::Layout;
 use measures::slots::wide;
-use morton::{block_around, block_index, common_level};
+use morton::{block_around, common_level};
 use sums::number_of_elements;
 
 // What is built so far: the elements on the stack, the next slot, and the last code.
@@ -43,22 +46,6 @@ pub fn empty_build() -> Build
     }
 }
 
-// The first element of the run around the code: the elements before `from` that lie in its block too.
-fn run_start(stack: &[u32], from: usize, code: u32, level: u32) -> usize
-    requires { (2 * from ≤ length stack.now) × (level ≤ 15) }
-    ensures { RunStart stack.now from code level result }
-{
-    let block = block_index(code, level);
-    let mut start = from;
-    while 0 < start {
-        if block_index(stack[2 * start - 2], level) != block {
-            return start;
-        }
-        start -= 1;
-    }
-    start
-}
-
 // The elements from `first` on go to the next slot, as one block with the number of their pixels, which stands on the stack in their place.
 fn pack(
     store: &mut [u32],
@@ -76,10 +63,9 @@ fn pack(
     let last = build.last;
     let code = block_around(last, level);
     let from = 2 * first;
-    let size = count - first;
-    let run = &stack[from..];
-    let number = number_of_elements(store, layout, run, size);
-    lay_block(store, layout, fresh, level, code, run, size, number);
+    let run = &stack[from..2 * count];
+    let number = number_of_elements(store, layout, run, count - first);
+    lay_block(store, layout, fresh, level, code, run, number);
     stack[from] = code;
     stack[from + 1] = block_tag(fresh as u32, level);
     Build {
@@ -92,16 +78,15 @@ fn pack(
 // Every block around the last code, of a level below the limit, that has k elements is packed: the lowest first.
 pub fn pack_complete(
     store: &mut [u32],
-    sizes: Sizes,
-    layout: Layout,
+    plan: Plan,
     stack: &mut [u32],
     build: Build,
     limit: u32,
 ) -> Build
-    requires { PackCompleteDue sizes layout store.old stack.old build limit }
-    ensures { PackCompleteDone sizes layout build limit store.old store.new stack.old stack.new result }
+    requires { PackCompleteDue plan store.old stack.old build limit }
+    ensures { PackCompleteDone plan build limit store.old store.new stack.old stack.new result }
 {
-    let k = wide(sizes.k);
+    let k = wide(plan.sizes.k);
     let mut packed = build;
     while k <= packed.count {
         let from = packed.count - k;
@@ -110,7 +95,7 @@ pub fn pack_complete(
             return packed;
         }
         let first = run_start(stack, from, packed.last, level);
-        packed = pack(store, layout, stack, packed, first, level);
+        packed = pack(store, plan.layout, stack, packed, first, level);
     }
     packed
 }
@@ -144,21 +129,14 @@ fn none_complete(stack: &[u32], k: usize, build: Build, limit: u32) -> bool
 }
 
 // The next code: the blocks that it lies beyond are complete.
-pub fn append(
-    store: &mut [u32],
-    sizes: Sizes,
-    layout: Layout,
-    stack: &mut [u32],
-    build: Build,
-    code: u32,
-) -> Build
-    requires { AppendDue sizes layout store.old stack.old build code }
-    ensures { AppendDone sizes layout build code store.old store.new stack.old stack.new result }
+pub fn append(store: &mut [u32], plan: Plan, stack: &mut [u32], build: Build, code: u32) -> Build
+    requires { AppendDue plan store.old stack.old build code }
+    ensures { AppendDone plan build code store.old store.new stack.old stack.new result }
 {
     let limit = common_level(build.last, code);
-    if none_complete(stack, wide(sizes.k), build, limit) {
+    if none_complete(stack, wide(plan.sizes.k), build, limit) {
         return push(stack, build, code);
     }
-    let packed = pack_complete(store, sizes, layout, stack, build, limit);
+    let packed = pack_complete(store, plan, stack, build, limit);
     push(stack, packed, code)
 }

@@ -2,37 +2,25 @@
 ghost use Rattle.measures.specs.Decides.{Decides};
 ghost use Rattle.image.specs.Judged.{WellFormed};
 
-use image::parts::{byte_at, code_at, codes_part, entry_number, is_well_formed, levels_part};
+use image::parts::{CODE_BYTES, code_at, codes_part, is_well_formed, levels_part};
+use std::fmt;
 
 // It answers whether these bytes have the form of an image.
-pub fn print_image(image: &[u8]) -> bool
+pub fn print_image(out: &mut impl fmt::Write, image: &[u8]) -> bool
     ensures { Decides result (WellFormed image.now) }
 {
     if !is_well_formed(image) {
-        io::write_all(1, b"not an image\n");
+        let _ = writeln!(out, "not an image");
         return false;
     }
-    io::write_all(1, b";");
-    print_columns(codes_part(image), levels_part(image), entry_number(image));
-    io::write_all(1, b"\n");
+    let _ = write!(out, ";");
+    print_columns(out, codes_part(image), levels_part(image));
+    let _ = writeln!(out);
     true
 }
 
-fn print_columns(codes: &[u8], levels: &[u8], number: usize) {
-    for i in 0..number {
-        print_entry(codes, levels, i);
+fn print_columns(out: &mut impl fmt::Write, codes: &[u8], levels: &[u8]) {
+    for (code, level) in codes.chunks_exact(CODE_BYTES).zip(levels) {
+        let _ = write!(out, " {level}/{}", code_at(code, 0));
     }
-}
-
-fn print_entry(codes: &[u8], levels: &[u8], i: usize) {
-    if levels.len() <= i {
-        return;
-    }
-    if codes.len() / 4 <= i {
-        return;
-    }
-    io::write_all(1, b" ");
-    io::print_decimal(1, byte_at(levels, i) as u64);
-    io::write_all(1, b"/");
-    io::print_decimal(1, code_at(codes, i) as u64);
 }

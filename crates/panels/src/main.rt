@@ -1,257 +1,223 @@
 // 01 "Sample panels", run through the public calls: what is printed is compared with the file stdout beside src.
 #![tactic(auto)]
 
-ghost use Rattle.std.specs.Prelude.{◌≡◌, length};
-
 use crate::entries::print_image;
-use crate::printing::{print_asking, print_counting, print_number, print_outcome, print_searching};
-use answers::{Listing, Saving};
-use measures::slots::wide;
+use crate::printing::{print_asking, print_counting, print_outcome, print_searching};
+use answers::Found;
+use console::Console;
 use morton::{x_of, y_of};
+use std::fmt;
 
 mod entries;
 mod printing;
 
 fn main() {
-    first_panel();
-    no_pixel_shown();
-    slot_handed_on();
-    full_root();
-    smallest_panel();
-    codes();
-    limits();
-    full_register();
+    let mut out = Console;
+    first_panel(&mut out);
+    no_pixel_shown(&mut out);
+    slot_handed_on(&mut out);
+    full_root(&mut out);
+    smallest_panel(&mut out);
+    codes(&mut out);
+    limits(&mut out);
+    full_register(&mut out);
 }
 
-// Enough words for every panel here; a function gives them, so that no proof spells them out.
-fn words_148() -> [u32; 148]
-    ensures { 148 ≡ length result }
-{
-    [0u32; 148]
+// A register whose answers are printed; it has enough words for every panel here.
+#[derive(Drop)]
+struct Shown<'a, W: fmt::Write> {
+    out: &'a mut W,
+    store: [u32; 148],
 }
 
-fn words_147() -> [u32; 147]
-    ensures { 147 ≡ length result }
-{
-    [0u32; 147]
-}
-
-fn mark(store: &mut [u32], code: u32) {
-    print_outcome(register::mark(store, x_of(code), y_of(code)));
-}
-
-fn clear(store: &mut [u32], code: u32) {
-    print_outcome(register::clear(store, x_of(code), y_of(code)));
-}
-
-fn mark_all(store: &mut [u32], codes: &[u32]) {
-    for i in 0..codes.len() {
-        mark(store, codes[i]);
+impl<'a, W: fmt::Write> Shown<'a, W> {
+    // An unmade register, below its title.
+    fn titled(out: &'a mut W, title: &str) -> Shown<'a, W> {
+        let _ = write!(out, "{title}:");
+        Shown {
+            out,
+            store: [0; 148],
+        }
     }
-}
 
-// The register's entries: those of its saved image.
-fn print(store: &[u32]) {
-    let mut image = io::buffer();
-    print_saved(store, &mut image);
-}
-
-fn print_saved(store: &[u32], output: &mut [u8]) {
-    let Saving::Saved(end) = register::save(store, output) else {
-        io::write_all(1, b"not saved\n");
-        return;
-    };
-    if output.len() < end {
-        return;
+    fn title(&mut self, title: &str) {
+        let _ = write!(self.out, "{title}:");
     }
-    print_image(&output[..end]);
-}
 
-// A register with these codes, and its entries.
-fn made(store: &mut [u32], m: u32, k: u32, n: u32, codes: &[u32]) {
-    make(store, m, k, n);
-    mark_all(store, codes);
-    print(store);
-}
+    fn make(&mut self, m: u32, k: u32, n: u32) {
+        let made = register::make(&mut self.store, m, k, n);
+        print_outcome(self.out, made);
+    }
 
-fn then_mark(store: &mut [u32], title: &[u8], code: u32) {
-    io::write_all(1, title);
-    mark(store, code);
-    print(store);
+    fn mark_at(&mut self, x: u32, y: u32) {
+        let marked = register::mark(&mut self.store, x, y);
+        print_outcome(self.out, marked);
+    }
+
+    fn mark(&mut self, code: u32) {
+        self.mark_at(x_of(code), y_of(code));
+    }
+
+    fn clear(&mut self, code: u32) {
+        let cleared = register::clear(&mut self.store, x_of(code), y_of(code));
+        print_outcome(self.out, cleared);
+    }
+
+    fn mark_all(&mut self, codes: &[u32]) {
+        for code in codes {
+            self.mark(*code);
+        }
+    }
+
+    // The register's entries: those of its saved image.
+    fn print(&mut self) {
+        let mut image = [0u8; 256];
+        let Ok(end) = register::save(&self.store, &mut image) else {
+            let _ = writeln!(self.out, "not saved");
+            return;
+        };
+        print_image(self.out, &image[..end]);
+    }
+
+    // A register with these codes, and its entries.
+    fn made(&mut self, m: u32, k: u32, n: u32, codes: &[u32]) {
+        self.make(m, k, n);
+        self.mark_all(codes);
+        self.print();
+    }
+
+    fn ask(&mut self, x: u32, y: u32) {
+        print_asking(self.out, register::ask(&self.store, x, y));
+    }
+
+    fn nearest(&mut self, x: u32, y: u32, budget: u32) {
+        let _ = write!(self.out, "nearest to ({x}, {y}), budget {budget}:");
+        print_searching(self.out, register::nearest(&self.store, x, y, budget));
+        let _ = writeln!(self.out);
+    }
+
+    // The codes in the window 4,4 to 7,7; the word after them is left alone.
+    fn list(&mut self) {
+        let mut output = [7u32; 2];
+        let Ok(Found { found, opened }) = register::list(&self.store, 4, 4, 7, 7, &mut output)
+        else {
+            let _ = write!(self.out, " not listed");
+            return;
+        };
+        let [first, second] = output;
+        let _ = write!(
+            self.out,
+            "; listed {found}, opened {opened}: {first} {second}"
+        );
+    }
 }
 
 // m = 3, k = 3, N = 9: codes 0, 1, 2, 60; what is asked of them; then clear code 1.
-fn first_panel() {
-    let mut store = words_148();
-    let codes = [0u32, 1, 2, 60];
-    io::write_all(1, b"codes 0, 1, 2, 60:");
-    made(&mut store, 3, 3, 9, &codes);
-    first_panel_asked(&store);
-    first_panel_searched(&store);
-    first_panel_cleared(&mut store);
+fn first_panel(out: &mut impl fmt::Write) {
+    let mut panel = Shown::titled(out, "codes 0, 1, 2, 60");
+    panel.made(3, 3, 9, &[0, 1, 2, 60]);
+    first_panel_asked(&mut panel);
+    first_panel_searched(&mut panel);
+    panel.title("clear code 1");
+    panel.clear(1);
+    panel.print();
 }
 
-fn first_panel_asked(store: &[u32]) {
-    io::write_all(1, b"ask (1, 1):");
-    print_asking(register::ask(store, 1, 1));
-    io::write_all(1, b"\nask (3, 3):");
-    print_asking(register::ask(store, 3, 3));
-    io::write_all(1, b"\nwindow 4,4 to 7,7:");
-    print_counting(register::count(store, 4, 4, 7, 7));
-    list(store);
-    io::write_all(1, b"\nask x = 8:");
-    print_asking(register::ask(store, 8, 0));
-    io::write_all(1, b"\n");
+fn first_panel_asked<W: fmt::Write>(panel: &mut Shown<W>) {
+    panel.title("ask (1, 1)");
+    panel.ask(1, 1);
+    panel.title("\nask (3, 3)");
+    panel.ask(3, 3);
+    panel.title("\nwindow 4,4 to 7,7");
+    print_counting(panel.out, register::count(&panel.store, 4, 4, 7, 7));
+    panel.list();
+    panel.title("\nask x = 8");
+    panel.ask(8, 0);
+    let _ = writeln!(panel.out);
 }
 
 // A rough search, then a complete one; a block too far to be opened; a limit that the next block reaches; no budget.
-fn first_panel_searched(store: &[u32]) {
-    nearest(store, 1, 1, 1);
-    nearest(store, 1, 1, 2);
-    nearest(store, 1, 1, 9);
-    nearest(store, 7, 7, 9);
-    nearest(store, 4, 0, 1);
-    nearest(store, 4, 0, 2);
-    nearest(store, 4, 0, 0);
-}
-
-fn nearest(store: &[u32], x: u32, y: u32, budget: u32) {
-    print_number(b"nearest to (", x as u64);
-    print_number(b", ", y as u64);
-    print_number(b"), budget ", budget as u64);
-    io::write_all(1, b":");
-    print_searching(register::nearest(store, x, y, budget));
-    io::write_all(1, b"\n");
-}
-
-fn first_panel_cleared(store: &mut [u32]) {
-    io::write_all(1, b"clear code 1:");
-    clear(store, 1);
-    print(store);
-}
-
-// The codes in the window 4,4 to 7,7; the word after them is left alone.
-fn list(store: &[u32]) {
-    let mut output = [7u32; 2];
-    let Listing::Found { found, opened } = register::list(store, 4, 4, 7, 7, &mut output) else {
-        io::write_all(1, b" not listed");
-        return;
-    };
-    io::write_all(1, b"; listed ");
-    io::print_decimal(1, found as u64);
-    io::write_all(1, b", opened ");
-    io::print_decimal(1, opened as u64);
-    io::write_all(1, b":");
-    print_word(&output, 0);
-    print_word(&output, 1);
-}
-
-fn print_word(words: &[u32], at: usize) {
-    if words.len() <= at {
-        return;
-    }
-    io::write_all(1, b" ");
-    io::print_decimal(1, wide(words[at]) as u64);
+fn first_panel_searched<W: fmt::Write>(panel: &mut Shown<W>) {
+    panel.nearest(1, 1, 1);
+    panel.nearest(1, 1, 2);
+    panel.nearest(1, 1, 9);
+    panel.nearest(7, 7, 9);
+    panel.nearest(4, 0, 1);
+    panel.nearest(4, 0, 2);
+    panel.nearest(4, 0, 0);
 }
 
 // Nothing marked; then a block that the root alone doesn't look into.
-fn no_pixel_shown() {
-    let mut store = words_148();
-    let codes = [0u32, 1, 2];
-    io::write_all(1, b"no codes:");
-    made(&mut store, 3, 3, 9, &codes[..0]);
-    nearest(&store, 4, 0, 1);
-    io::write_all(1, b"codes 0, 1, 2:");
-    made(&mut store, 3, 3, 9, &codes);
-    nearest(&store, 4, 0, 1);
+fn no_pixel_shown(out: &mut impl fmt::Write) {
+    let mut panel = Shown::titled(out, "no codes");
+    panel.made(3, 3, 9, &[]);
+    panel.nearest(4, 0, 1);
+    panel.title("codes 0, 1, 2");
+    panel.made(3, 3, 9, &[0, 1, 2]);
+    panel.nearest(4, 0, 1);
 }
 
 // N = 4 has two slots: the block that turns underfull hands its slot to the one that is formed in it.
-fn slot_handed_on() {
-    let mut store = words_148();
-    let codes = [0u32, 1, 4];
-    io::write_all(1, b"codes 0, 1, 4, N = 4:");
-    made(&mut store, 3, 3, 4, &codes);
-    then_mark(&mut store, b"mark 2:", 2);
+fn slot_handed_on(out: &mut impl fmt::Write) {
+    let mut panel = Shown::titled(out, "codes 0, 1, 4, N = 4");
+    panel.made(3, 3, 4, &[0, 1, 4]);
+    panel.title("mark 2");
+    panel.mark(2);
+    panel.print();
 }
 
 // The root alone with 8 = 4(k-1) elements is not full.
-fn full_root() {
-    let mut store = words_148();
-    let codes = [0u32, 1, 16, 17, 32, 33, 48, 49];
-    io::write_all(1, b"codes 0, 1, 16, 17, 32, 33, 48, 49:");
-    made(&mut store, 3, 3, 9, &codes);
-    then_mark(&mut store, b"mark 4:", 4);
+fn full_root(out: &mut impl fmt::Write) {
+    let mut panel = Shown::titled(out, "codes 0, 1, 16, 17, 32, 33, 48, 49");
+    panel.made(3, 3, 9, &[0, 1, 16, 17, 32, 33, 48, 49]);
+    panel.title("mark 4");
+    panel.mark(4);
+    panel.print();
 }
 
-fn smallest_panel() {
-    let mut empty = words_148();
-    let mut full = words_148();
-    let codes = [0u32, 1, 2, 3];
-    io::write_all(1, b"m = 1, k = 2, empty:");
-    made(&mut empty, 1, 2, 4, &codes[..0]);
-    io::write_all(1, b"m = 1, k = 2, all four:");
-    made(&mut full, 1, 2, 4, &codes);
+fn smallest_panel(out: &mut impl fmt::Write) {
+    let mut empty = Shown::titled(out, "m = 1, k = 2, empty");
+    empty.made(1, 2, 4, &[]);
+    let mut full = Shown::titled(out, "m = 1, k = 2, all four");
+    full.made(1, 2, 4, &[0, 1, 2, 3]);
 }
 
 // A pixel by its coordinates, printed by its code.
-fn codes() {
-    let mut store = words_148();
-    io::write_all(1, b"(5, 3):");
-    pixel_by_code(&mut store, 3, 5, 3);
-    io::write_all(1, b"(65535, 65535) on m = 16:");
-    pixel_by_code(&mut store, 16, 65535, 65535);
+fn codes(out: &mut impl fmt::Write) {
+    let mut panel = Shown::titled(out, "(5, 3)");
+    panel.make(3, 3, 9);
+    panel.mark_at(5, 3);
+    panel.print();
+    panel.title("(65535, 65535) on m = 16");
+    panel.make(16, 3, 9);
+    panel.mark_at(65535, 65535);
+    panel.print();
 }
 
-fn pixel_by_code(store: &mut [u32], m: u32, x: u32, y: u32) {
-    make(store, m, 3, 9);
-    print_outcome(register::mark(store, x, y));
-    print(store);
-}
-
-fn limits() {
-    let mut store = words_148();
-    let mut short = words_147();
-    io::write_all(1, b"k = 3, N = 9, 148 and 147 words:");
-    make(&mut store, 3, 3, 9);
-    make(&mut short, 3, 3, 9);
-    beyond_limits(&mut store);
-}
-
-fn beyond_limits(store: &mut [u32]) {
-    io::write_all(1, b"\nk = 1 and 17, m = 0 and 17, N = 0, 24577 and 65535:");
-    make(store, 3, 1, 9);
-    make(store, 3, 17, 9);
-    make(store, 0, 3, 9);
-    make(store, 17, 3, 9);
-    make(store, 3, 3, 0);
-    make(store, 3, 3, 24577);
-    make(store, 3, 3, 65535);
-    off_panel(store);
-}
-
-fn make(store: &mut [u32], m: u32, k: u32, n: u32) {
-    print_outcome(register::make(store, m, k, n));
-}
-
-fn off_panel(store: &mut [u32]) {
-    io::write_all(1, b"\nmark x = 8:");
-    print_outcome(register::mark(store, 8, 0));
-    io::write_all(1, b"\n");
+fn limits(out: &mut impl fmt::Write) {
+    let mut panel = Shown::titled(out, "k = 3, N = 9, 148 and 147 words");
+    panel.make(3, 3, 9);
+    let mut short = [0u32; 147];
+    print_outcome(panel.out, register::make(&mut short, 3, 3, 9));
+    panel.title("\nk = 1 and 17, m = 0 and 17, N = 0, 24577 and 65535");
+    panel.make(3, 1, 9);
+    panel.make(3, 17, 9);
+    panel.make(0, 3, 9);
+    panel.make(17, 3, 9);
+    panel.make(3, 3, 0);
+    panel.make(3, 3, 24577);
+    panel.make(3, 3, 65535);
+    panel.title("\nmark x = 8");
+    panel.mark_at(8, 0);
+    let _ = writeln!(panel.out);
 }
 
 // A marked pixel on a full register gives 5, another one 6; room from a cleared pixel counts.
-fn full_register() {
-    let mut store = words_148();
-    io::write_all(1, b"N = 1: mark 5, 5, 6, clear 5, mark 6:");
-    fill_and_clear(&mut store);
-}
-
-fn fill_and_clear(store: &mut [u32]) {
-    let codes = [5u32, 5, 6];
-    make(store, 3, 3, 1);
-    mark_all(store, &codes);
-    clear(store, 5);
-    mark(store, 6);
-    print(store);
+fn full_register(out: &mut impl fmt::Write) {
+    let mut panel = Shown::titled(out, "N = 1: mark 5, 5, 6, clear 5, mark 6");
+    panel.make(3, 3, 1);
+    panel.mark_all(&[5, 5, 6]);
+    panel.clear(5);
+    panel.mark(6);
+    panel.print();
 }

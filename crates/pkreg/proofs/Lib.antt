@@ -1,3 +1,1 @@
 pub mod Handed
-pub mod Fits
-pub mod Needed

@@ -2,16 +2,13 @@
 // ensures, register's own, of the numbers handed over.
 #![tactic(auto)]
 
-ghost use Rattle.std.specs.Prelude.{◌≡◌};
-ghost use Rattle.promises.specs.Answer.{yes_no};
-ghost use Rattle.answers.specs.Answer.{number_of};
+ghost use Rattle.std.specs.Prelude.{◌≡◌, ◌<◌};
+ghost use Rattle.answers.specs.Answer.{needed_by, refusal_answer};
 ghost use Rattle.promises.specs.Answer as answers;
 ghost use Rattle.promises.specs.Calls.{MakeMeets, MarkMeets, ClearMeets, LoadMeets, FillMeets, AskMeets, NearestMeets, CountMeets, ListMeets, SaveMeets, CheckMeets};
 ghost use Rattle.pkreg.specs.Numbers.{numbers, place_numbers, nearest_numbers, WordsNeeded};
 
-use answers::{
-    Asking, Checking, Counting, Listing, Refusal, Saving, Searching, number_of, refusal_of,
-};
+use answers::{Found, NearPixel, Refusal, refusal_of};
 use measures::sizes::{Sizes, layout_of, store_end, within_limits};
 
 // 01's number and values: refusal 0 is an accepted call.
@@ -33,30 +30,28 @@ fn accepted(first: u32, second: u32) -> PkAnswer
     }
 }
 
+// What count and list found.
+impl From<Found> for PkAnswer {
+    ghost from_gives = { λ sum answer. numbers answer ≡ answers.accepted sum.found sum.opened };
+
+    fn from(sum: Found) -> PkAnswer {
+        accepted(sum.found, sum.opened)
+    }
+}
+
+// The needed length comes with 9: no register needs more than 32 bits say.
 fn refused(refusal: Refusal) -> PkAnswer
-    ensures { numbers result ≡ answers.refused (number_of refusal) }
+    ensures { needed_by refusal < 4294967296 → numbers result ≡ refusal_answer refusal }
 {
+    let first = match refusal {
+        Refusal::OutputTooShort { needed } => u32::try_from(needed).unwrap_or(u32::MAX),
+        _ => 0,
+    };
     PkAnswer {
-        refusal: number_of(refusal),
-        first: 0,
+        refusal: u32::from(refusal),
+        first,
         second: 0,
     }
-}
-
-fn short(needed: u32) -> PkAnswer
-    ensures { numbers result ≡ answers.short needed }
-{
-    PkAnswer {
-        refusal: 9,
-        first: needed,
-        second: 0,
-    }
-}
-
-fn yes_no(marked: bool) -> u32
-    ensures { result ≡ yes_no marked }
-{
-    if marked { 1 } else { 0 }
 }
 
 // The words that a store needs, 0 for a k or a `most` (01's N) beyond its limits. They do not depend on the order.
@@ -123,15 +118,15 @@ pub extern "C" fn pk_ask(store: &[u32], x: u32, y: u32) -> PkPlace
     ensures { AskMeets store.now x y (place_numbers result) }
 {
     match register::ask(store, x, y) {
-        Asking::Answered(place) => PkPlace {
+        Ok(place) => PkPlace {
             refusal: 0,
-            marked: yes_no(place.marked),
+            marked: u32::from(place.marked),
             opened: place.opened as u32,
             level: place.level,
             code: place.code,
         },
-        Asking::Refused(refusal) => PkPlace {
-            refusal: number_of(refusal),
+        Err(refusal) => PkPlace {
+            refusal: u32::from(refusal),
             marked: 0,
             opened: 0,
             level: 0,
@@ -158,25 +153,32 @@ pub struct PkNearest {
 pub extern "C" fn pk_nearest(store: &[u32], x: u32, y: u32, budget: u32) -> PkNearest
     ensures { NearestMeets store.now x y budget (nearest_numbers result) }
 {
-    match register::nearest(store, x, y, budget) {
-        Searching::Ended(nearest) => PkNearest {
-            distance: nearest.distance,
-            limit: nearest.limit,
-            refusal: 0,
-            found: yes_no(nearest.found),
-            code: nearest.code,
-            opened: nearest.opened,
-            complete: yes_no(nearest.complete),
-        },
-        Searching::Refused(refusal) => PkNearest {
-            distance: 0,
-            limit: 0,
-            refusal: number_of(refusal),
-            found: 0,
-            code: 0,
-            opened: 0,
-            complete: 0,
-        },
+    let nearest = match register::nearest(store, x, y, budget) {
+        Ok(nearest) => nearest,
+        Err(refusal) => {
+            return PkNearest {
+                distance: 0,
+                limit: 0,
+                refusal: u32::from(refusal),
+                found: 0,
+                code: 0,
+                opened: 0,
+                complete: 0,
+            };
+        }
+    };
+    let pixel = nearest.pixel.unwrap_or(NearPixel {
+        code: 0,
+        distance: 0,
+    });
+    PkNearest {
+        distance: pixel.distance,
+        limit: nearest.limit,
+        refusal: 0,
+        found: u32::from(nearest.pixel.is_some()),
+        code: pixel.code,
+        opened: nearest.opened,
+        complete: u32::from(nearest.complete),
     }
 }
 
@@ -186,8 +188,8 @@ pub extern "C" fn pk_count(store: &[u32], x0: u32, y0: u32, x1: u32, y1: u32) ->
     ensures { CountMeets store.now x0 y0 x1 y1 (numbers result) }
 {
     match register::count(store, x0, y0, x1, y1) {
-        Counting::Found { found, opened } => accepted(found, opened),
-        Counting::Refused(refusal) => refused(refusal),
+        Ok(sum) => PkAnswer::from(sum),
+        Err(refusal) => refused(refusal),
     }
 }
 
@@ -204,9 +206,8 @@ pub extern "C" fn pk_list(
     ensures { ListMeets store.now x0 y0 x1 y1 output.old output.new (numbers result) }
 {
     match register::list(store, x0, y0, x1, y1, output) {
-        Listing::Found { found, opened } => accepted(found, opened),
-        Listing::Short(needed) => short(needed),
-        Listing::Refused(refusal) => refused(refusal),
+        Ok(sum) => PkAnswer::from(sum),
+        Err(refusal) => refused(refusal),
     }
 }
 
@@ -216,9 +217,8 @@ pub extern "C" fn pk_save(store: &[u32], output: &mut [u8]) -> PkAnswer
     ensures { SaveMeets store.now output.old output.new (numbers result) }
 {
     match register::save(store, output) {
-        Saving::Saved(length) => accepted(length as u32, 0),
-        Saving::Short(needed) => short(needed as u32),
-        Saving::Refused(refusal) => refused(refusal),
+        Ok(length) => accepted(length as u32, 0),
+        Err(refusal) => refused(refusal),
     }
 }
 
@@ -228,8 +228,7 @@ pub extern "C" fn pk_check(store: &[u32]) -> PkAnswer
     ensures { CheckMeets store.now (numbers result) }
 {
     match register::check(store) {
-        Checking::Sound => accepted(1, 0),
-        Checking::Unsound => accepted(0, 0),
-        Checking::Refused(refusal) => refused(refusal),
+        Ok(sound) => accepted(u32::from(sound), 0),
+        Err(refusal) => refused(refusal),
     }
 }

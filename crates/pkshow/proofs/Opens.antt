@@ -60,9 +60,9 @@ too_short low = refused_length (inl low)
 pub too_long : {after bytes : List ℕ} → 4010 < length bytes → ShowMeets after bytes 10
 too_long high = refused_length (inr high)
 
--- what make was given, and what it left
-module _ (bytes : List ℕ) {before made : List ℕ} {a : Answer} {order k r : ℕ} (meets : MakeMeets before made order k 400 a) (order_is : order ≡ get_or bytes 0 0)
-    (k_is : k ≡ get_or bytes 1 0) (room : words_for400 ≤ length before) (low : 2 ≤ length bytes) (high : length bytes ≤ 4010) (number : r ≡ a.refusal) where
+-- what make was given, what it left, and its answer
+module _ (bytes : List ℕ) {before made : List ℕ} {a : Answer} {order k : ℕ} (meets : MakeMeets before made order k 400 a) (order_is : order ≡ get_or bytes 0 0)
+    (k_is : k ≡ get_or bytes 1 0) (room : words_for400 ≤ length before) (low : 2 ≤ length bytes) (high : length bytes ≤ 4010) where
   in_length : LengthOut bytes → ⊥
   in_length (inl l) = omega arith
   in_length (inr l) = omega arith
@@ -70,14 +70,14 @@ module _ (bytes : List ℕ) {before made : List ℕ} {a : Answer} {order k r : �
   makes : MakeMeets before made (get_or bytes 0 0) (get_or bytes 1 0) 400 a
   makes = subst₂ (λ (m k : ℕ). MakeMeets before made m k 400 a) order_is k_is meets
 
-  accepted : ValidSizes (sizes_shown bytes) → r ≡ 0
-  accepted valid = number ∙ (make_refusals makes).made.1 (valid, omega (arith, enough bytes valid))
+  accepted : ValidSizes (sizes_shown bytes) → a.refusal ≡ 0
+  accepted valid = (make_refusals makes).made.1 (valid, omega (arith, enough bytes valid))
 
-  pub not_made : (r ≡ 0 → ⊥) → ShowMeets made bytes r
+  pub not_made : (a.refusal ≡ 0 → ⊥) → ShowMeets made bytes a.refusal
   not_made other =
       record {
         out_of_length = λ o. absurd (in_length o);
-        beyond_limits = λ o v. number ∙ number_is (where_fails makes v);
+        beyond_limits = λ o v. number_is (where_fails makes v);
         malformed = λ g w. absurd (other (accepted g.valid));
         unlike = λ g w f. absurd (other (accepted g.valid));
         no_set = λ g w f s. absurd (other (accepted g.valid));
@@ -85,10 +85,7 @@ module _ (bytes : List ℕ) {before made : List ℕ} {a : Answer} {order k r : �
       }
 
   -- it was made, and loaded into
-  module _ {after : List ℕ} {b : Answer} (made_so : r ≡ 0) (loads : LoadMeets made after bytes b) where
-    done : a.refusal ≡ 0
-    done = sym number ∙ made_so
-
+  module _ {after : List ℕ} {b : Answer} (done : a.refusal ≡ 0) (loads : LoadMeets made after bytes b) where
     usable : UsableStore made
     usable = (accepted_makes makes done).holds.sound.usable
 
@@ -96,17 +93,17 @@ module _ (bytes : List ℕ) {before made : List ℕ} {a : Answer} {order k r : �
     of_made : (P : Sizes → Type 0) → P (sizes_shown bytes) → P (sizes_of made)
     of_made P h = subst P (sym (accepted_makes makes done).sizes_are) h
 
-    pub made_loaded : {answered : ℕ} → answered ≡ b.refusal → ShowMeets after bytes answered
-    made_loaded is =
+    pub made_loaded : ShowMeets after bytes b.refusal
+    made_loaded =
         record {
           out_of_length = λ o. absurd (in_length o);
           beyond_limits = λ o v. absurd (v (subst ValidSizes (accepted_makes makes done).sizes_are usable.valid));
-          malformed = λ g w. is ∙ number_is (where_fails (where_holds loads usable) w);
-          unlike = λ g w f. is ∙ number_is (where_fails (where_holds (where_holds loads usable) w) (of_made (λ s. FitsRegister (panel_of s) s.most bytes → ⊥) f));
+          malformed = λ g w. number_is (where_fails (where_holds loads usable) w);
+          unlike = λ g w f. number_is (where_fails (where_holds (where_holds loads usable) w) (of_made (λ s. FitsRegister (panel_of s) s.most bytes → ⊥) f));
           no_set = λ g w f s.
-              is ∙ number_is (where_fails (where_holds (where_holds (where_holds loads usable) w) (of_made (λ s. FitsRegister (panel_of s) s.most bytes) f))
+              number_is (where_fails (where_holds (where_holds (where_holds loads usable) w) (of_made (λ s. FitsRegister (panel_of s) s.most bytes) f))
               (of_made (λ s. ImageOfSome (panel_of s) bytes → ⊥) s));
           loaded = λ set g h.
               let d = image_loaded loads usable (of_made (λ s. HasImage (panel_of s) s.most bytes set) h) in
-              (is ∙ ap (λ (a : Answer). a.refusal) d.done, d.holds, d.sizes_are ∙ (accepted_makes makes done).sizes_are);
+              (ap (λ (a : Answer). a.refusal) d.done, d.holds, d.sizes_are ∙ (accepted_makes makes done).sizes_are);
         }

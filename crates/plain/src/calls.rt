@@ -1,27 +1,24 @@
-// What 01 says that each call answers, and the set that it leaves. The store has `length` words; a refusal is 01's number, 0 for none.
+// What 01 says that each call answers, and the set that it leaves. The store has `length` words.
 ghost use Rattle.std.specs.Prelude.{◌≤◌};
 
-use crate::blocks::{Panel, Set};
-use crate::codes::{code_of, side_of, size_of};
-use crate::images::Bytes;
+use crate::blocks::{Marked, Panel};
+use crate::codes::{all_below, ascend, code_of, side_of, size_of};
+use crate::images::{judge_header, named};
 use crate::search::Search;
 use crate::window::Window;
-use crate::{blocks, codes, images, search, window};
 
-// A refusal and the values beside it.
-#[derive(Clone, Copy)]
-pub struct Answer {
-    pub refusal: u32,
-    pub first: usize,
-    pub second: usize,
+// Why a call is refused: 01's number, which with an output too short is 9, and there the words or bytes that are needed.
+#[derive(Clone, Copy, PartialEq, Eq)]
+pub enum Refusal {
+    Numbered(u32),
+    Short(usize),
 }
 
-pub fn answered(refusal: u32, first: usize, second: usize) -> Answer {
-    Answer {
-        refusal,
-        first,
-        second,
-    }
+// What ask, count and list answer.
+#[derive(Clone, Copy, PartialEq, Eq)]
+pub struct Seen {
+    pub pixels: usize,
+    pub opened: usize,
 }
 
 // 01: S = 1 + floor((N-1)/(k-1)) slots; the store needs 8 + S × (8 + 10(k-1)) words.
@@ -33,160 +30,145 @@ pub fn words_needed(k: u32, most: u32) -> usize
     (8 + slots * (8 + 10 * others)) as usize
 }
 
-pub fn make(m: u32, k: u32, most: u32, length: usize, set: &mut Set) -> u32 {
-    if m < 1 || 16 < m || k < 2 || 16 < k || most < 1 || 24576 < most {
-        return 1;
+// The answer of a call that needs so many words or bytes of its output.
+pub fn fits(needed: usize, room: usize) -> Result<(), Refusal> {
+    if room < needed {
+        return Err(Refusal::Short(needed));
     }
-    if length < words_needed(k, most) {
-        return 2;
-    }
-    *set = [false; 256];
-    0
+    Ok(())
 }
 
-fn pixel_refusal(panel: Panel, length: usize, x: u32, y: u32) -> u32 {
-    let side = side_of(panel.m);
-    if length < panel.words {
-        return 3;
+impl Panel {
+    fn judge_store(self, length: usize) -> Result<(), Refusal> {
+        if length < self.words {
+            return Err(Refusal::Numbered(3));
+        }
+        Ok(())
     }
-    if (side <= x) | (side <= y) {
-        return 4;
+
+    fn judge_pixel(self, length: usize, x: u32, y: u32) -> Result<(), Refusal> {
+        self.judge_store(length)?;
+        let side = side_of(self.m);
+        if side <= x || side <= y {
+            return Err(Refusal::Numbered(4));
+        }
+        Ok(())
     }
-    0
+
+    // A register that nothing but calls wrote to is sound.
+    pub fn check(self, length: usize) -> Result<bool, Refusal> {
+        self.judge_store(length)?;
+        Ok(true)
+    }
 }
 
-fn change_refusal(panel: Panel, length: usize, x: u32, y: u32, marked: bool, set: &Set) -> u32 {
-    let refusal = pixel_refusal(panel, length, x, y);
-    if refusal != 0 {
-        return refusal;
+impl Marked {
+    pub fn make(&mut self, m: u32, k: u32, most: u32, length: usize) -> Result<(), Refusal> {
+        if m < 1 || 16 < m || k < 2 || 16 < k || most < 1 || 24576 < most {
+            return Err(Refusal::Numbered(1));
+        }
+        if length < words_needed(k, most) {
+            return Err(Refusal::Numbered(2));
+        }
+        self.set = [false; 256];
+        Ok(())
     }
-    let was = blocks::is_marked(set, code_of(x, y));
-    if marked & was {
-        return 5;
-    }
-    if marked & (panel.most <= (images::number_of(panel, set, 0) as u32)) {
-        return 6;
-    }
-    if !(marked | was) {
-        return 7;
-    }
-    0
-}
 
-// mark, or clear, after which the pixel is marked, or not.
-pub fn change(panel: Panel, length: usize, x: u32, y: u32, marked: bool, set: &mut Set) -> u32 {
-    let refusal = change_refusal(panel, length, x, y, marked, set);
-    if refusal == 0 {
-        set[(code_of(x, y) % 256) as usize] = marked;
+    fn judge_change(&self, code: u32, marked: bool) -> Result<(), Refusal> {
+        match (marked, self.is_marked(code)) {
+            (true, true) => Err(Refusal::Numbered(5)),
+            (true, false) if self.panel.most <= (self.number_of(0) as u32) => {
+                Err(Refusal::Numbered(6))
+            }
+            (false, false) => Err(Refusal::Numbered(7)),
+            _ => Ok(()),
+        }
     }
-    refusal
-}
 
-// What a window finds and opens. What of it is off the panel has no pixel and no block.
-fn seen(panel: Panel, window: Window, over_edge: bool, set: &Set) -> Answer {
-    answered(
-        0,
-        window::pixels(panel, set, window) as usize,
-        window::blocks_met(panel, set, window, over_edge) as usize,
-    )
-}
+    // mark, or clear, after which the pixel is marked, or not.
+    pub fn change(&mut self, length: usize, x: u32, y: u32, marked: bool) -> Result<(), Refusal> {
+        self.panel.judge_pixel(length, x, y)?;
+        let code = code_of(x, y);
+        self.judge_change(code, marked)?;
+        self.put(code, marked);
+        Ok(())
+    }
 
-// The blocks that contain the pixel are those that share one with the window of the pixel alone.
-pub fn ask(panel: Panel, length: usize, x: u32, y: u32, set: &Set) -> Answer {
-    let refusal = pixel_refusal(panel, length, x, y);
-    if refusal != 0 {
-        return answered(refusal, 0, 0);
+    // What a window finds and opens. What of it is off the panel has no pixel and no block.
+    fn seen(&self, window: Window, over_edge: bool) -> Seen {
+        Seen {
+            pixels: self.pixels(window) as usize,
+            opened: self.blocks_met(window, over_edge) as usize,
+        }
     }
-    seen(panel, window::around(x, y), false, set)
-}
 
-// 02, P5: refused as ask is, then without a budget.
-pub fn nearest(panel: Panel, length: usize, x: u32, y: u32, budget: u32, set: &Set) -> Search {
-    let refusal = pixel_refusal(panel, length, x, y);
-    if refusal != 0 {
-        return search::refused(refusal);
+    // The blocks that contain the pixel are those that share one with the window of the pixel alone.
+    pub fn ask(&self, length: usize, x: u32, y: u32) -> Result<Seen, Refusal> {
+        self.panel.judge_pixel(length, x, y)?;
+        Ok(self.seen(Window::around(x, y), false))
     }
-    if budget < 1 {
-        return search::refused(15);
-    }
-    search::run(panel, set, code_of(x, y), budget)
-}
 
-fn of_window(panel: Panel, length: usize, window: Window, over_edge: bool, set: &Set) -> Answer {
-    if length < panel.words {
-        return answered(3, 0, 0);
+    // 02, P5: refused as ask is, then without a budget.
+    pub fn nearest(&self, length: usize, x: u32, y: u32, budget: u32) -> Result<Search, Refusal> {
+        self.panel.judge_pixel(length, x, y)?;
+        if budget < 1 {
+            return Err(Refusal::Numbered(15));
+        }
+        Ok(self.search(code_of(x, y), budget))
     }
-    if (window.x1 < window.x0) | (window.y1 < window.y0) {
-        return answered(8, 0, 0);
-    }
-    seen(panel, window, over_edge, set)
-}
 
-// 02, P6: a count does not open a block wholly inside the window.
-pub fn count(panel: Panel, length: usize, window: Window, set: &Set) -> Answer {
-    of_window(panel, length, window, true, set)
-}
+    fn of_window(&self, length: usize, window: Window, over_edge: bool) -> Result<Seen, Refusal> {
+        self.panel.judge_store(length)?;
+        if window.x1 < window.x0 || window.y1 < window.y0 {
+            return Err(Refusal::Numbered(8));
+        }
+        Ok(self.seen(window, over_edge))
+    }
 
-// A list does; with an output that is long enough.
-pub fn list(panel: Panel, length: usize, window: Window, set: &Set) -> Answer {
-    of_window(panel, length, window, false, set)
-}
+    // 02, P6: a count does not open a block wholly inside the window.
+    pub fn count(&self, length: usize, window: Window) -> Result<Seen, Refusal> {
+        self.of_window(length, window, true)
+    }
 
-// The answer of a call that writes as many words or bytes as its first number says.
-pub fn with_output(answer: Answer, room: usize) -> Answer {
-    if room < answer.first {
-        return answered(9, answer.first, 0);
+    // A list does; with an output that is long enough.
+    pub fn list(&self, length: usize, window: Window) -> Result<Seen, Refusal> {
+        self.of_window(length, window, false)
     }
-    answer
-}
 
-pub fn save(panel: Panel, length: usize, set: &Set, room: usize) -> Answer {
-    with_output(
-        opened(panel, length, images::image_length(panel, set)),
-        room,
-    )
-}
+    pub fn save(&self, length: usize, room: usize) -> Result<usize, Refusal> {
+        self.panel.judge_store(length)?;
+        let needed = self.image_length();
+        fits(needed, room)?;
+        Ok(needed)
+    }
 
-// The answer of a call that only a store too short refuses. A register that nothing but calls wrote to is sound: check answers yes, which is 1.
-pub fn opened(panel: Panel, length: usize, first: usize) -> Answer {
-    if length < panel.words {
-        return answered(3, 0, 0);
+    // 02, P2: the codes replace the set, if they are a set on the panel of at most N.
+    pub fn fill(&mut self, length: usize, codes: &[u32]) -> Result<(), Refusal> {
+        self.panel.judge_store(length)?;
+        if !all_below(codes, size_of(self.panel.m)) {
+            return Err(Refusal::Numbered(4));
+        }
+        if (self.panel.most as usize) < codes.len() {
+            return Err(Refusal::Numbered(6));
+        }
+        if !ascend(codes) {
+            return Err(Refusal::Numbered(14));
+        }
+        self.set = [false; 256];
+        for code in codes {
+            self.put(*code, true);
+        }
+        Ok(())
     }
-    answered(0, first, 0)
-}
 
-// 02, P2: the codes replace the set, if they are a set on the panel of at most N.
-pub fn fill(panel: Panel, length: usize, codes: &[u32], set: &mut Set) -> u32 {
-    if length < panel.words {
-        return 3;
+    pub fn load(&mut self, length: usize, image: &[u8]) -> Result<(), Refusal> {
+        self.panel.judge_store(length)?;
+        judge_header(self.panel, image)?;
+        let candidate = named(self.panel, image);
+        if !candidate.is_image(image) {
+            return Err(Refusal::Numbered(12));
+        }
+        self.set = candidate.set;
+        Ok(())
     }
-    if !codes::all_below(codes, size_of(panel.m)) {
-        return 4;
-    }
-    if (panel.most as usize) < codes.len() {
-        return 6;
-    }
-    if !codes::ascend(codes) {
-        return 14;
-    }
-    *set = [false; 256];
-    blocks::mark_all(codes, set);
-    0
-}
-
-pub fn load(panel: Panel, length: usize, bytes: &Bytes, image: usize, set: &mut Set) -> u32 {
-    if length < panel.words {
-        return 3;
-    }
-    let refusal = images::header_refusal(panel, bytes, image);
-    if refusal != 0 {
-        return refusal;
-    }
-    let mut candidate = [false; 256];
-    images::named_set(bytes, &mut candidate);
-    if !images::is_image(panel, &candidate, bytes) {
-        return 12;
-    }
-    *set = candidate;
-    0
 }

@@ -16,50 +16,24 @@ pub fn x_of(code: u32) -> u32 {
 }
 
 pub fn all_below(codes: &[u32], end: u32) -> bool {
-    let mut i: usize = 0;
-    while i < codes.len() {
-        if end <= codes[i] {
-            return false;
-        }
-        i += 1;
-    }
-    true
+    codes.iter().all(|code| *code < end)
 }
 
 // Strictly: each is above the one before it.
 pub fn ascend(codes: &[u32]) -> bool {
-    let mut i: usize = 1;
-    while i < codes.len() {
-        if codes[i] <= codes[i - 1] {
-            return false;
-        }
-        i += 1;
-    }
-    true
+    codes.windows(2).all(|pair| pair[0] < pair[1])
 }
 
 // A block of level i has side 2^i.
 pub fn side_of(level: u32) -> u32
     ensures { (1 ≤ result) × (result ≤ 16) }
 {
-    match level {
-        0 => 1,
-        1 => 2,
-        2 => 4,
-        3 => 8,
-        _ => 16,
-    }
+    1 << level.min(4)
 }
 
 // A block of level i has 4^i codes.
 pub fn size_of(level: u32) -> u32
     ensures { (1 ≤ result) × (result ≤ 256) }
 {
-    match level {
-        0 => 1,
-        1 => 4,
-        2 => 16,
-        3 => 64,
-        _ => 256,
-    }
+    1 << (2 * level.min(4))
 }

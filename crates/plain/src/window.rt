@@ -1,6 +1,6 @@
 // What a window finds and opens.
-use crate::blocks::{Panel, Set};
-use crate::{blocks, codes};
+use crate::blocks::{Marked, code_at, level_at, place_of};
+use crate::codes::{side_of, size_of, x_of};
 
 // Both corners included.
 #[derive(Clone, Copy)]
@@ -11,31 +11,12 @@ pub struct Window {
     pub y1: u32,
 }
 
-// The window of one pixel alone.
-pub fn around(x: u32, y: u32) -> Window {
-    Window {
-        x0: x,
-        y0: y,
-        x1: x,
-        y1: y,
-    }
-}
-
-// Whether a block, or at level 0 a pixel, shares a pixel with the window.
-fn shares(window: Window, level: u32, code: u32) -> bool {
-    let reach = codes::side_of(level) - 1;
-    let x = codes::x_of(code);
-    let y = codes::x_of(code >> 1);
-    (x <= window.x1) & (window.x0 <= (x | reach)) & (y <= window.y1) & (window.y0 <= (y | reach))
-}
-
-// Whether all of its pixels lie in the window.
-fn lies_inside(window: Window, level: u32, code: u32) -> bool {
-    let reach = codes::side_of(level) - 1;
-    let x = codes::x_of(code);
-    let y = codes::x_of(code >> 1);
-    (window.x0 <= x) & ((x | reach) <= window.x1) & (window.y0 <= y) & ((y | reach) <= window.y1)
-}
+pub const WHOLE: Window = Window {
+    x0: 0,
+    y0: 0,
+    x1: 15,
+    y1: 15,
+};
 
 // Which entries are counted: those of these levels that share a pixel with the window; over its edge those alone that have one outside it too.
 #[derive(Clone, Copy)]
@@ -45,85 +26,102 @@ pub struct Sought {
     pub over_edge: bool,
 }
 
-fn counts(panel: Panel, set: &Set, window: Window, sought: Sought, place: u16) -> bool {
-    let level = blocks::level_at(place);
-    let code = blocks::code_at(place);
-    if (level < sought.low) | (sought.high < level) | !shares(window, level, code) {
-        return false;
-    }
-    if sought.over_edge & lies_inside(window, level, code) {
-        return false;
-    }
-    blocks::is_entry(panel, set, place)
-}
-
-pub fn entries(panel: Panel, set: &Set, window: Window, sought: Sought) -> u16 {
-    let mut number = 0;
-    for place in 0..panel.places {
-        if counts(panel, set, window, sought, place) {
-            number += 1;
+impl Window {
+    // The window of one pixel alone.
+    pub fn around(x: u32, y: u32) -> Window {
+        Window {
+            x0: x,
+            y0: y,
+            x1: x,
+            y1: y,
         }
     }
-    number
-}
 
-// The marked pixels in the window.
-pub fn pixels(panel: Panel, set: &Set, window: Window) -> u16 {
-    let sought = Sought {
-        low: 0,
-        high: 0,
-        over_edge: false,
-    };
-    entries(panel, set, window, sought)
-}
-
-// The instantiated blocks that share a pixel with the window, or 02, P6: those of them that do not lie wholly inside it.
-pub fn blocks_met(panel: Panel, set: &Set, window: Window, over_edge: bool) -> u16 {
-    let sought = Sought {
-        low: 1,
-        high: 4,
-        over_edge,
-    };
-    entries(panel, set, window, sought)
-}
-
-// 02, P8: whether a block is the smallest around a pixel, given as its window: it contains the pixel, it is instantiated, and no instantiated block of a
-// lower level contains the pixel.
-pub fn is_smallest(panel: Panel, set: &Set, pixel: Window, level: u32, code: u32) -> bool {
-    if level < 1 {
-        return false;
-    }
-    if (panel.m < level) | (codes::size_of(panel.m) <= code) {
-        return false;
-    }
-    let below = Sought {
-        low: 1,
-        high: level - 1,
-        over_edge: false,
-    };
-    shares(pixel, level, code)
-        & blocks::is_entry(panel, set, blocks::place_of(level, code) as u16)
-        & (entries(panel, set, pixel, below) == 0)
-}
-
-// What a list of all 256 codes may write to; every word is 7 before.
-pub type Words = [u32; 256];
-
-// Whether the first words are the codes found, in rising order, where the list was accepted, and the others as before: each code that isn't found leaves one of these alone, from the last down.
-pub fn is_list(set: &Set, window: Window, accepted: bool, words: &Words) -> bool {
-    let mut right = true;
-    let mut at = 0u32;
-    for code in 0..256u32 {
-        if accepted & blocks::is_marked(set, code) & shares(window, 0, code) {
-            right = right & is_word(words, at, code);
-            at += 1;
-        } else {
-            right = right & is_word(words, 255 + at - code, 7);
+    // The window of a block, or at level 0 of a pixel.
+    fn of_block(level: u32, code: u32) -> Window {
+        let reach = side_of(level) - 1;
+        let x = x_of(code);
+        let y = x_of(code >> 1);
+        Window {
+            x0: x,
+            y0: y,
+            x1: x | reach,
+            y1: y | reach,
         }
     }
-    right
+
+    fn meets(self, other: Window) -> bool {
+        self.x0 <= other.x1 && other.x0 <= self.x1 && self.y0 <= other.y1 && other.y0 <= self.y1
+    }
+
+    fn contains(self, other: Window) -> bool {
+        self.x0 <= other.x0 && other.x1 <= self.x1 && self.y0 <= other.y0 && other.y1 <= self.y1
+    }
 }
 
-fn is_word(words: &Words, at: u32, word: u32) -> bool {
-    words[(at % 256) as usize] == word
+impl Marked {
+    fn counts(&self, window: Window, sought: Sought, place: u16) -> bool {
+        let level = level_at(place);
+        let block = Window::of_block(level, code_at(place));
+        if level < sought.low || sought.high < level || !window.meets(block) {
+            return false;
+        }
+        if sought.over_edge && window.contains(block) {
+            return false;
+        }
+        self.is_entry(place)
+    }
+
+    pub fn entries(&self, window: Window, sought: Sought) -> u16 {
+        (0..self.panel.places)
+            .filter(|place| self.counts(window, sought, *place))
+            .count() as u16
+    }
+
+    // The marked pixels in the window.
+    pub fn pixels(&self, window: Window) -> u16 {
+        let sought = Sought {
+            low: 0,
+            high: 0,
+            over_edge: false,
+        };
+        self.entries(window, sought)
+    }
+
+    // The instantiated blocks that share a pixel with the window, or 02, P6: those of them that do not lie wholly inside it.
+    pub fn blocks_met(&self, window: Window, over_edge: bool) -> u16 {
+        let sought = Sought {
+            low: 1,
+            high: 4,
+            over_edge,
+        };
+        self.entries(window, sought)
+    }
+
+    // 02, P8: whether a block is the smallest around a pixel, given as its window: it contains the pixel, it is instantiated, and no instantiated block of a
+    // lower level contains the pixel.
+    pub fn is_smallest(&self, pixel: Window, level: u32, code: u32) -> bool {
+        if level < 1 || self.panel.m < level || size_of(self.panel.m) <= code {
+            return false;
+        }
+        let below = Sought {
+            low: 1,
+            high: level - 1,
+            over_edge: false,
+        };
+        pixel.meets(Window::of_block(level, code))
+            && self.is_entry(place_of(level, code) as u16)
+            && self.entries(pixel, below) == 0
+    }
+
+    // Whether these words, all 7 before, are the codes found, in rising order, where the list was accepted, and the others as before.
+    pub fn is_list(&self, window: Window, accepted: bool, words: &[u32]) -> bool {
+        (0..256u32)
+            .filter(|code| {
+                accepted && self.is_marked(*code) && window.meets(Window::of_block(0, *code))
+            })
+            .chain(std::iter::repeat(7))
+            .zip(words)
+            .all(|(expected, word)| expected == *word)
+    }
 }

@@ -67,3 +67,8 @@ count_walk add =
         says = λ room. let a = p.says (room_first add f g room) in added_both add f g room a (q.says (room_second add f g room a));
       };
     }
+
+-- room for all is room for one element after those before it
+pub room_between : {findings : Findings} {most slots : ℕ} {s t : ℕ × ℕ × ℕ} → Additive findings → (f g h : Forest) → Counts findings most slots s f t
+    → Room findings most slots s ((f ⧺ g) ⧺ h) → Room findings most slots t g
+room_between add f g h counted room = let both = room_first add (f ⧺ g) h room in room_second add f g both (counted.says (room_first add f g both))

@@ -1,20 +1,21 @@
 -- What a window walk over a part of the tree answers.
-use Rattle.std.specs.Prelude.{◌≡◌, ℕ, ◌+◌, ◌^◌, ◌<◌, ◌≤◌, true, false, ◌⊎◌, List, length}
+use Rattle.std.specs.Prelude.{◌≡◌, ℕ, ◌+◌, ◌^◌, ◌<◌, ◌≤◌, true, false, List, length, Result, Ok, Err}
 use Rattle.pktree.specs.Elements.{Forest, empty, pixel, block, unlabelled, size}
 use Rattle.pktree.specs.Tree.{block_of, pixels}
 use Rattle.pktree.specs.Window as tree
 use Rattle.pktree.specs.Window.{found, Ordered, shares_pixel, wholly_inside, crossed_by_window, tested_by_window}
 use Rattle.measures.specs.Sizes.{largest_most, sizes_of, slot_width}
-use Rattle.measures.specs.Layout.{LayoutFits, level_above_root}
+use Rattle.measures.specs.Layout.{level_above_root}
 use Rattle.measures.specs.Slot.{slot_part, number_word}
 use Rattle.store.specs.Opening.{CannotOpen, RootCannotOpen}
 use Rattle.store.specs.Placed.{Placed}
 use Rattle.store.proofs.BlockView.{BlockView}
-use Rattle.query.specs.declared.walk.RangeQuery.{RangeQuery}
+use Rattle.store.specs.declared.Damaged.{Damaged}
+use Rattle.query.specs.WindowRange.{Range}
 use Rattle.query.specs.declared.walk.Sum.{Sum}
+use Rattle.answers.specs.declared.Refusal.{Refusal}
 use Rattle.answers.specs.declared.Refusal.TheVariants.{StoreDamaged}
-use Rattle.answers.specs.declared.Counting.{Counting}
-use Rattle.answers.specs.declared.Counting.TheVariants.{Found, Refused}
+use Rattle.answers.specs.declared.Found.{Found}
 use Rattle.windows.specs.declared.Corners.{Corners}
 use Rattle.windows.specs.Corners.{window_between}
 
@@ -47,56 +48,69 @@ pub record Added (findings : Findings) (s : ℕ × ℕ × ℕ) (f : Forest) (t :
 pub record Counts (findings : Findings) (most slots : ℕ) (s : ℕ × ℕ × ℕ) (f : Forest) (t : ℕ × ℕ × ℕ) : Type 0 where
   pub says : Room findings most slots s f → Added findings s f t
 
--- a walk may begin
-pub record CanQuery (range : RangeQuery) (words : List ℕ) : Type 0 where
-  pub fits : LayoutFits range.layout words
-  pub ordered : Ordered (window_between range.corners)
-  pub most_to : range.most ≤ largest_most
+-- a walk has come to its end, or the words are damaged
+abbrev pub Ending : Type 0
+Ending = Result (Unit {0}) Damaged
+
+abbrev pub done : Ending
+done = Ok tt
+
+abbrev pub broken : Ending
+broken = Err (record {})
+
+-- and where there is room the walk ends
+pub record CountsTo (r : Ending) (findings : Findings) (most slots : ℕ) (s : ℕ × ℕ × ℕ) (f : Forest) (t : ℕ × ℕ × ℕ) : Type 0 where
+  pub counts : Counts findings most slots s f t
+  pub ends : Room findings most slots s f → r ≡ done
 
 -- a block that shares a pixel with the window was walked, and all inside it
-pub record SharingWalked {S : Type 0} (W : S → Forest → S → Type 0) (range : RangeQuery) (words : List ℕ) (above slot level code : ℕ) (s t : S) : Type 0 where
+pub record SharingWalked {S : Type 0} (W : S → Forest → S → Type 0) (range : Range) (words : List ℕ) (above slot level code : ℕ) (s t : S) : Type 0 where
   pub right : (k : ℕ) (es : Placed) → level < above → BlockView k range.layout.width range.layout.slots words slot level code es
       → shares_pixel (window_between range.corners) (block_of level code (unlabelled es)) ≡ true → W s (block level code (unlabelled es) empty) t
 
 -- where it opens so many blocks
-pub record BlockCounted (opens : tree.Window → Forest → ℕ) (range : RangeQuery) (words : List ℕ) (above slot level code : ℕ) (s t : ℕ × ℕ × ℕ) : Type 0 where
-  pub walked : SharingWalked (Counts (of_blocks opens (window_between range.corners)) range.most range.layout.slots) range words above slot level code s t
-  pub closed : CannotOpen range.layout.width words slot level code → range.layout.slots < t.1
+pub record BlockCounted (opens : tree.Window → Forest → ℕ) (range : Range) (words : List ℕ) (above slot level code : ℕ) (s t : ℕ × ℕ × ℕ) (r : Ending) : Type 0 where
+  pub walked : SharingWalked (CountsTo r (of_blocks opens (window_between range.corners)) range.most range.layout.slots) range words above slot level code s t
+  pub closed : CannotOpen range.layout.width words slot level code → r ≡ broken
 
 -- 02, P6: a count opens only blocks over the window's edge
-pub record EdgeCounted (range : RangeQuery) (words : List ℕ) (above slot level code : ℕ) (s t : ℕ × ℕ × ℕ) : Type 0 where
+pub record EdgeCounted (range : Range) (words : List ℕ) (above slot level code : ℕ) (s t : ℕ × ℕ × ℕ) (r : Ending) : Type 0 where
   pub walked : (k : ℕ) (es : Placed) → level < above → BlockView k range.layout.width range.layout.slots words slot level code es
       → shares_pixel (window_between range.corners) (block_of level code (unlabelled es)) ≡ true
       → wholly_inside (window_between range.corners) (block_of level code (unlabelled es)) ≡ false
-      → Counts (of_blocks crossed_by_window (window_between range.corners)) range.most range.layout.slots s (block level code (unlabelled es) empty) t
-  pub closed : CannotOpen range.layout.width words slot level code → range.layout.slots < t.1
+      → CountsTo r (of_blocks crossed_by_window (window_between range.corners)) range.most range.layout.slots s (block level code (unlabelled es) empty) t
+  pub closed : CannotOpen range.layout.width words slot level code → r ≡ broken
 
 -- from the root on
 abbrev pub numbers_of : Sum → ℕ × ℕ × ℕ
 numbers_of sum = (sum.found, sum.opened, sum.tested)
 
-pub record RootCounted (opens : tree.Window → Forest → ℕ) (range : RangeQuery) (words : List ℕ) (order : ℕ) (r : Sum) : Type 0 where
-  pub counted : BlockCounted opens range words level_above_root 0 order 0 (0, 0, 0) (numbers_of r)
+abbrev pub RootCase : (ℕ × ℕ × ℕ → Ending → Type 0) → Result Sum Damaged → Type 0
+RootCase To (Ok sum) = To (numbers_of sum) done
+RootCase To (Err _) = (t : ℕ × ℕ × ℕ) × To t broken
+
+pub record RootCounted (opens : tree.Window → Forest → ℕ) (range : Range) (words : List ℕ) (order : ℕ) (r : Result Sum Damaged) : Type 0 where
+  pub case : RootCase (BlockCounted opens range words level_above_root 0 order 0 (0, 0, 0)) r
 
 -- 02, P6: the number that the slot of a block says is added; or this is damage: there is no such block, or N is passed
-abbrev pub NumberCase : RangeQuery → List ℕ → ℕ → ℕ → ℕ → ℕ → ℕ → ℕ → ℕ → ℕ → Type 0
-NumberCase range words above slot level code found opened after r =
-    ((r ≡ opened) × (after ≡ found + number_word (slot_part range.layout.width words slot)) × (after ≤ range.most) × (CannotOpen range.layout.width words slot level code → ⊥))
-    ⊎ ((range.layout.slots < r)
-    × (slot < range.layout.slots → level < above → (CannotOpen range.layout.width words slot level code → ⊥) → range.most < found + number_word (slot_part range.layout.width words slot)))
+abbrev pub NumberCase : Range → List ℕ → ℕ → ℕ → ℕ → ℕ → ℕ → ℕ → Ending → Type 0
+NumberCase range words above slot level code found after (Ok _) =
+    (after ≡ found + number_word (slot_part range.layout.width words slot)) × (after ≤ range.most) × (CannotOpen range.layout.width words slot level code → ⊥)
+NumberCase range words above slot level code found after (Err _) =
+    slot < range.layout.slots → level < above → (CannotOpen range.layout.width words slot level code → ⊥) → range.most < found + number_word (slot_part range.layout.width words slot)
 
-pub record NumberTaken (range : RangeQuery) (words : List ℕ) (above slot level code found opened after r : ℕ) : Type 0 where
-  pub case : NumberCase range words above slot level code found opened after r
+pub record NumberTaken (range : Range) (words : List ℕ) (above slot level code found after : ℕ) (r : Ending) : Type 0 where
+  pub case : NumberCase range words above slot level code found after r
 
 -- the same of the root, and so of the whole panel
 abbrev pub root_part : List ℕ → List ℕ
 root_part words = slot_part (slot_width (sizes_of words).k) words 0
 
-abbrev pub WholeCase : List ℕ → Counting → Type 0
-WholeCase words (Found f o) = (f ≡ number_word (root_part words)) × (o ≡ 0) × (f ≤ (sizes_of words).most) × (RootCannotOpen words → ⊥)
-WholeCase words (Refused refusal) = (refusal ≡ StoreDamaged) × ((RootCannotOpen words → ⊥) → (sizes_of words).most < number_word (root_part words))
+abbrev pub WholeCase : List ℕ → Result Found Refusal → Type 0
+WholeCase words (Ok sum) = (sum.found ≡ number_word (root_part words)) × (sum.opened ≡ 0) × (sum.found ≤ (sizes_of words).most) × (RootCannotOpen words → ⊥)
+WholeCase words (Err refusal) = (refusal ≡ StoreDamaged) × ((RootCannotOpen words → ⊥) → (sizes_of words).most < number_word (root_part words))
 
-pub record WholeCounted (words : List ℕ) (r : Counting) : Type 0 where
+pub record WholeCounted (words : List ℕ) (r : Result Found Refusal) : Type 0 where
   pub case : WholeCase words r
 
 -- what is found of a pixel
@@ -108,9 +122,9 @@ pub record PixelCounted (corners : Corners) (code found r : ℕ) : Type 0 where
   pub says : Ordered (window_between corners) → found + length (found_of corners code) ≤ largest_most → r ≡ found + length (found_of corners code)
 
 -- these numbers, unless they are more than may be
-abbrev pub SumCase : RangeQuery → Sum → Counting → Type 0
-SumCase range sum (Found f o) = (f ≡ sum.found) × (o ≡ sum.opened) × (f ≤ range.most) × (o ≤ range.layout.slots)
-SumCase range sum (Refused refusal) = (refusal ≡ StoreDamaged) × (sum.found ≤ range.most → range.layout.slots < sum.opened)
+abbrev pub SumCase : Range → Sum → Result Found Refusal → Type 0
+SumCase range sum (Ok told) = (told.found ≡ sum.found) × (told.opened ≡ sum.opened) × (told.found ≤ range.most) × (told.opened ≤ range.layout.slots)
+SumCase range sum (Err refusal) = (refusal ≡ StoreDamaged) × (sum.found ≤ range.most → range.layout.slots < sum.opened)
 
-pub record SumWithin (range : RangeQuery) (sum : Sum) (r : Counting) : Type 0 where
+pub record SumWithin (range : Range) (sum : Sum) (r : Result Found Refusal) : Type 0 where
   pub case : SumCase range sum r

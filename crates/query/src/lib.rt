@@ -3,4 +3,5 @@
 #![tactic(auto)]
 
 pub mod count;
+pub mod range;
 pub mod walk;

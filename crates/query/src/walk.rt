@@ -1,22 +1,15 @@
 // What the walks of count and of list carry, and how they open a block.
-ghost use Rattle.measures.specs.Layout.{LayoutFits};
 ghost use Rattle.query.specs.Opened.{OpenedNext};
+ghost use Rattle.windows.specs.declared.Corners.{Corners};
 ghost use Rattle.query.specs.Counting.{SumWithin};
 
-use answers::{Counting, Refusal};
+use answers::{Found, Refusal};
+use elements::Block;
+use measures::lent::Slots;
 use measures::sizes::Layout;
 use measures::slots::wide;
-use store::opening::Opening;
+use store::Damaged;
 use walks::enter;
-use windows::Corners;
-
-// What a window walk is given: where the slots lie, the window, and the most pixels (01's N).
-#[derive(Clone, Copy)]
-pub struct RangeQuery {
-    pub layout: Layout,
-    pub corners: Corners,
-    pub most: u32,
-}
 
 // What a walk comes to: the pixels found, the blocks opened, and the elements tested singly (02, P4).
 #[derive(Clone, Copy)]
@@ -27,37 +20,27 @@ pub struct Sum {
 }
 
 // One more block is opened. As many opened already as there are slots: the words are damaged.
-pub fn open_next(
-    store: &[u32],
-    layout: Layout,
-    above: u32,
-    slot: u32,
-    level: u32,
-    code: u32,
-    opened: u32,
-) -> Opening
-    requires { LayoutFits layout store.now }
-    ensures { OpenedNext layout store.now above slot level code opened result }
+pub fn open_next(slots: &Slots, above: u32, block: Block, opened: u32) -> Result<usize, Damaged>
+    ensures { OpenedNext slots.now.layout slots.now.words.now above block.slot block.level block.code opened result }
 {
-    if layout.slots <= wide(opened) {
-        return Opening::Damaged;
+    if slots.layout.slots <= wide(opened) {
+        return Err(Damaged);
     }
-    enter(store, layout, above, slot, level, code)
+    enter(slots, above, block)
 }
 
 // Never more pixels than 01's N, nor more blocks than there are slots, but on damaged words.
-pub fn within(range: RangeQuery, sum: Sum) -> Counting
-    ensures { SumWithin range sum result }
+pub fn within(layout: Layout, most: u32, sum: Sum) -> Result<Found, Refusal>
+    ensures { (corners : Corners) → SumWithin (record { layout = layout; corners = corners; most = most }) sum result }
 {
-    if range.most < sum.found {
-        return Counting::Refused(Refusal::StoreDamaged);
+    if most < sum.found {
+        return Err(Refusal::StoreDamaged);
     }
-    let layout = range.layout;
     if layout.slots < wide(sum.opened) {
-        return Counting::Refused(Refusal::StoreDamaged);
+        return Err(Refusal::StoreDamaged);
     }
-    Counting::Found {
+    Ok(Found {
         found: sum.found,
         opened: sum.opened,
-    }
+    })
 }

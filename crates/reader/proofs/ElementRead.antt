@@ -2,7 +2,7 @@
 use Prim.Native.Nat.{ℕ, ◌+◌, ◌^◌, ◌≤◌, ◌<◌}
 use native.Mathlib.Omega.{arith}
 use native.Mathlib.Numerals.{add-one}
-use mathlib.Core.Path.{◌≡◌, ap, ◌∙◌}
+use mathlib.Core.Path.{◌≡◌, ap, sym, ◌∙◌}
 use mathlib.Core.Bool.{Bool, true}
 use mathlib.Core.List.{List, [], ◌∷◌, ◌++◌, append-nil}
 use lib.ListN.{length}
@@ -11,9 +11,10 @@ use Rattle.pktree.specs.Entries.{Entry, entry, entries}
 use Rattle.pktree.proofs.Forests.{cond_case, give_case, give_itself, give_elements}
 use Rattle.pktree.proofs.LocalLaw.{gather_is_local}
 use Rattle.reader.specs.declared.ElementsRead.{ElementsRead}
-use Rattle.reader.specs.declared.ElementsRead.TheVariants.{Elements, Wrong}
-use Rattle.reader.specs.Reading.{entries_from, EntryIs, CanReadBlock, elements_of, quarter_of, From, ReadAs, ElementsMeet, QuarterMeets, most_of_block, most_given}
+use Rattle.std.specs.Prelude.{Option}
+use Rattle.reader.specs.Reading.{elements, wrong, entries_from, EntryIs, CanReadBlock, elements_of, quarter_of, From, ReadAs, ElementsMeet, QuarterMeets, most_of_block, most_given}
 use Rattle.reader.proofs.EntriesFrom.{entry_first, first_entry}
+use Rattle.reader.proofs.ForestRead.{same_read}
 use Rattle.reader.proofs.FirstEntry.{not_past, not_of_elements}
 
 -- a marked pixel gives itself
@@ -21,8 +22,8 @@ pub pixel_given : (k code : ℕ) → 2 ≤ k → quarter_of k 0 code (λ x. true
 unfolding gather
 pixel_given k code h = give_elements k 0 code (pixel code empty) (omega arith)
 
-pixel_there : {codes levels : List ℕ} {k code at : ℕ} → CanReadBlock codes levels k 0 code at → EntryIs codes levels at 0 code
-    → QuarterMeets codes levels k 0 code at (Elements 1 (at + 1))
+pixel_there : {codes levels : List ℕ} {k code at : ℕ} → CanReadBlock levels k 0 code at → EntryIs codes levels at 0 code
+    → QuarterMeets codes levels k 0 code at (elements 1 (at + 1))
 unfolding gather
 pixel_there {codes} {levels} {k} {code} {at} can is =
     let itself = pixel_given k code can.k_from in
@@ -36,21 +37,20 @@ pixel_there {codes} {levels} {k} {code} {at} can is =
         next_to = omega (arith, is.below);
       };
       complete = λ marked rest. cond_case (λ (f : Forest). entries_from codes levels at ≡ entries (give k 0 code f) ++ rest → From (code + 4 ^ 0) rest
-          → Elements 1 (at + 1) ≡ Elements (size (give k 0 code f)) (at + length (entries (give k 0 code f)))) (marked code) (pixel code empty) empty
+          → elements 1 (at + 1) ≡ elements (size (give k 0 code f)) (at + length (entries (give k 0 code f)))) (marked code) (pixel code empty) empty
           (λ t e past. rw (given (pixel code empty) (omega arith)))
           (λ t e past. absurd (not_past codes levels at 0 code (code + 4 ^ 0) rest is (rw (given empty (omega arith)) at e) past (omega arith)));
     }
 
-pub pixel_read : {codes levels : List ℕ} {k level code at : ℕ} → CanReadBlock codes levels k level code at → EntryIs codes levels at level code → level < 1
-    → QuarterMeets codes levels k level code at (Elements 1 (at + 1))
+pub pixel_read : {codes levels : List ℕ} {k level code at : ℕ} → CanReadBlock levels k level code at → EntryIs codes levels at level code → level < 1
+    → QuarterMeets codes levels k level code at (elements 1 (at + 1))
 pixel_read {level = level} can is low = let z : level ≡ 0 = omega arith in rw z (pixel_there (rw z at can) (rw z at is))
 
 -- the elements of a block stand after its entry
-pub inside_can : {codes levels : List ℕ} {k level code at : ℕ} → CanReadBlock codes levels k level code at → EntryIs codes levels at level code
-    → CanReadBlock codes levels k level code (at + 1)
+pub inside_can : {codes levels : List ℕ} {k level code at : ℕ} → CanReadBlock levels k level code at → EntryIs codes levels at level code
+    → CanReadBlock levels k level code (at + 1)
 inside_can can is =
     record {
-      columns = can.columns;
       k_from = can.k_from;
       k_to = can.k_to;
       level_to = can.level_to;
@@ -59,7 +59,7 @@ inside_can can is =
       at_to = omega (arith, is.below);
     }
 
-module _ {codes levels : List ℕ} {k level code at : ℕ} (can : CanReadBlock codes levels k level code at) (is : EntryIs codes levels at level code) (up : 1 ≤ level) where
+module _ {codes levels : List ℕ} {k level code at : ℕ} (can : CanReadBlock levels k level code at) (is : EntryIs codes levels at level code) (up : 1 ≤ level) where
   -- a claimed block gives itself, and its elements stand after its entry
   given_claimed : (marked : ℕ → Bool) (rest : List Entry) → entries_from codes levels at ≡ entries (quarter_of k level code marked) ++ rest → From (code + 4 ^ level) rest
       → (k ≤ size (gather marked k level code)) × (entries_from codes levels (at + 1) ≡ entries (gather marked k level code) ++ rest)
@@ -83,8 +83,8 @@ module _ {codes levels : List ℕ} {k level code at : ℕ} (can : CanReadBlock c
         next_to = read.next_to;
       }
 
-  module _ {r : ElementsRead} (inside : ElementsMeet codes levels k level code (at + 1) r) where
-    pub claimed_wrong : r ≡ Wrong → QuarterMeets codes levels k level code at Wrong
+  module _ {r : Option ElementsRead} (inside : ElementsMeet codes levels k level code (at + 1) r) where
+    pub claimed_wrong : r ≡ wrong → QuarterMeets codes levels k level code at wrong
     claimed_wrong is-wrong =
         record {
           sound = tt;
@@ -93,24 +93,24 @@ module _ {codes levels : List ℕ} {k level code at : ℕ} (can : CanReadBlock c
               let w = inside.complete marked rest g.1 past in absurd (let z : ◌≡◌ {A = ℕ} 0 1 = cc in omega arith);
         }
 
-    module _ {count next : ℕ} (answered : r ≡ Elements count next) where
-      pub claimed_few : count < k → QuarterMeets codes levels k level code at Wrong
+    module _ {count next : ℕ} (answered : r ≡ elements count next) where
+      pub claimed_few : count < k → QuarterMeets codes levels k level code at wrong
       claimed_few few =
           record {
             sound = tt;
             complete = λ marked rest e past.
                 let g = given_claimed marked rest e past in
                 let w = inside.complete marked rest g.1 past in
-                let n : count ≡ size (gather marked k level code) = cc in absurd (omega (arith, g.0));
+                let n : count ≡ size (gather marked k level code) = (same_read (sym answered ∙ w)).0 in absurd (omega (arith, g.0));
           }
 
-      pub claimed_read : k ≤ count → QuarterMeets codes levels k level code at (Elements 1 next)
+      pub claimed_read : k ≤ count → QuarterMeets codes levels k level code at (elements 1 next)
       claimed_read many =
           record {
             sound = block_given (rw answered at inside.sound) many;
             complete = λ marked rest e past.
                 let g = given_claimed marked rest e past in
                 let w = inside.complete marked rest g.1 past in
-                let n : next ≡ at + 1 + length (entries (gather marked k level code)) = cc in
-                rw (give_itself k level code (gather marked k level code) g.0, append-nil (entries (gather marked k level code))) (ap (Elements 1) (omega arith));
+                let n : next ≡ at + 1 + length (entries (gather marked k level code)) = (same_read (sym answered ∙ w)).1 in
+                rw (give_itself k level code (gather marked k level code) g.0, append-nil (entries (gather marked k level code))) (ap (elements 1) (omega arith));
           }

@@ -1,27 +1,23 @@
--- The number of pixels among entries, counted by their levels from the last one on.
-use Prim.Native.Nat.{ℕ, zero, suc, ◌+◌, ◌-◌, ◌*◌, ◌≤◌, ◌<◌}
+-- The number of pixels among entries, counted by their levels.
+use Prim.Native.Nat.{ℕ, zero, suc, ◌+◌, ◌*◌}
 use native.Mathlib.Omega.{arith}
-use mathlib.Core.Path.{◌≡◌, ap, ◌∙◌}
+use mathlib.Core.Path.{◌≡◌, refl, ap}
 use mathlib.Core.Bool.{Bool, true, false, cond}
 use mathlib.Core.List.{List, ◌∷◌}
 use lib.Dec.{eqb}
 use lib.ListN.{length, get_or, drop}
 use lib.Seq.{drop-cons, drop-length}
-use borrow.Author.Tests.{eq-eqb, ne_eqb}
+use Rattle.std.specs.List.{count_by}
+use Rattle.std.proofs.lemmas.List.Recursion.{is_count_by}
 use Rattle.pktree.specs.Entries.{pixel_entries}
 use Rattle.image.specs.Parts.{four_at, entries_at}
 use Rattle.reader.specs.PixelCount.{pixel_levels}
 
-module _ (levels : List ℕ) (at count : ℕ) (some : 0 < at) (to : at ≤ length levels) where
-  -- one place back
-  step : drop (at - 1) levels ≡ get_or levels (at - 1) 0 ∷ drop at levels
-  step = let e : suc (at - 1) ≡ at = omega arith in drop-cons levels (at - 1) 0 (omega arith) ∙ ap (λ (n : ℕ). get_or levels (at - 1) 0 ∷ drop n levels) e
-
-  pub pixel_here : get_or levels (at - 1) 0 ≡ 0 → count ≡ pixel_levels (drop at levels) → count + 1 ≡ pixel_levels (drop (at - 1) levels)
-  pixel_here z e = rw (step, eq-eqb (get_or levels (at - 1) 0) 0 z, ← e) (omega arith)
-
-  pub block_here : (get_or levels (at - 1) 0 ≡ 0 → ⊥) → count ≡ pixel_levels (drop at levels) → count ≡ pixel_levels (drop (at - 1) levels)
-  block_here z e = rw (step, ne_eqb (get_or levels (at - 1) 0) 0 z) e
+-- the definition is a count by a test
+pub counted_levels : (levels : List ℕ) → pixel_levels levels ≡ count_by (λ level. eqb level 0) levels
+counted_levels =
+    is_count_by pixel_levels (λ level. eqb level 0) refl
+    (λ level levels. let one : suc (pixel_levels levels) ≡ 1 + pixel_levels levels = omega arith in ap (λ (n : ℕ). cond (eqb level 0) n (pixel_levels levels)) one)
 
 -- as many levels 0 as pixels among the entries
 kept_length : (b : Bool) (code : ℕ) (l : List ℕ) (n : ℕ) → length l ≡ n → length (cond b (code ∷ l) l) ≡ cond b (suc n) n

@@ -16,11 +16,11 @@ use Rattle.pktree.proofs.Counting.{sparse_of_small}
 use Rattle.pktree.proofs.EntryOrder.{entries_join}
 use Rattle.pktree.proofs.LocalLaw.{Row, row_join, local_is_gather, gather_is_local, given_row}
 use Rattle.reader.specs.declared.ElementsRead.{ElementsRead}
-use Rattle.reader.specs.declared.ElementsRead.TheVariants.{Elements, Wrong}
-use Rattle.reader.specs.Reading.{entries_from, CanReadBlock, elements_of, quarter_of, From, ElementsMeet, QuarterMeets, most_of_block, most_given}
+use Rattle.std.specs.Prelude.{Option}
+use Rattle.reader.specs.Reading.{elements, wrong, entries_from, CanReadBlock, elements_of, quarter_of, From, ElementsMeet, QuarterMeets, most_of_block, most_given}
 use Rattle.reader.proofs.BlockSize.{size_of_quarters}
 use Rattle.reader.proofs.EntriesFrom.{entries_past}
-use Rattle.reader.proofs.ForestRead.{forest_read}
+use Rattle.reader.proofs.ForestRead.{forest_read, same_read}
 use Rattle.reader.proofs.Quarters.{quarters, gather_is_quarters, from_quarters}
 
 -- of a block that stands at `at`: the last n quarters, from `place` on, stand at `next`, and `count` elements before them
@@ -73,8 +73,8 @@ module _ {codes levels : List ℕ} {k level code at : ℕ} (h : 2 ≤ k) where
             (subst (λ (to : ℕ). From to rest) (omega (arith, s.ends)) past),
       )
 
-  wrong_read : {count next place : ℕ} {r : ElementsRead} (n : ℕ) → QuartersRead codes levels k level code at count next place (suc n)
-      → QuarterMeets codes levels k level place next r → r ≡ Wrong → ElementsMeet codes levels k (suc level) code at Wrong
+  wrong_read : {count next place : ℕ} {r : Option ElementsRead} (n : ℕ) → QuartersRead codes levels k level code at count next place (suc n)
+      → QuarterMeets codes levels k level place next r → r ≡ wrong → ElementsMeet codes levels k (suc level) code at wrong
   wrong_read n s one is-wrong =
       record {
         sound = tt;
@@ -84,7 +84,7 @@ module _ {codes levels : List ℕ} {k level code at : ℕ} (h : 2 ≤ k) where
       }
 
   one_read : {count next place more after : ℕ} (n : ℕ) → QuartersRead codes levels k level code at count next place (suc n)
-      → QuarterMeets codes levels k level place next (Elements more after) → QuartersRead codes levels k level code at (count + more) after (place + 4 ^ level) n
+      → QuarterMeets codes levels k level place next (elements more after) → QuartersRead codes levels k level code at (count + more) after (place + 4 ^ level) n
   unfolding quarters
   one_read {count} {next} {place} {more} {after} n s one =
       let given : Forest = quarter_of k level place one.sound.marked in
@@ -103,9 +103,9 @@ module _ {codes levels : List ℕ} {k level code at : ℕ} (h : 2 ≤ k) where
             let there = next_there n s marked rest left past in
             let its : Forest = quarter_of k level place marked in
             let others : Forest = quarters marked k level n (place + 4 ^ level) in
-            let w : Elements more after ≡ Elements (size its) (next + length (entries its)) = one.complete marked (entries others ++ rest) there.0 there.1 in
-            let m : more ≡ size its = cc in
-            let a : after ≡ next + length (entries its) = cc in
+            let w : elements more after ≡ elements (size its) (next + length (entries its)) = one.complete marked (entries others ++ rest) there.0 there.1 in
+            let m : more ≡ size its = (same_read w).0 in
+            let a : after ≡ next + length (entries its) = (same_read w).1 in
             record {
               entries_left = rw a (entries_past codes levels (entries its) (entries others ++ rest) next there.0);
               size_left = omega (arith, left.size_left, size_join its others);
@@ -114,7 +114,7 @@ module _ {codes levels : List ℕ} {k level code at : ℕ} (h : 2 ≤ k) where
       }
 
   four_read : {count next place : ℕ} → Aligned (suc level) code → QuartersRead codes levels k level code at count next place 0
-      → ElementsMeet codes levels k (suc level) code at (Elements count next)
+      → ElementsMeet codes levels k (suc level) code at (elements count next)
   unfolding quarters
   four_read {count} {next} {place} aligned s =
       let end : place ≡ code + 4 ^ suc level = omega (arith, s.ends) in
@@ -124,26 +124,27 @@ module _ {codes levels : List ℕ} {k level code at : ℕ} (h : 2 ≤ k) where
             (local_is_gather k (suc level) code s.read aligned (record { arranged = row.arranged; sparse = row.sparse }))
             s.entries_are s.size_is (omega (arith, s.count_to)) s.next_to;
         complete = λ marked rest e past.
-            let left = s.complete marked rest e past in ap₂ Elements (omega (arith, left.size_left)) (omega (arith, left.index_left));
+            let left = s.complete marked rest e past in ap₂ elements (omega (arith, left.size_left)) (omega (arith, left.index_left));
       }
 
 -- the same of a block of this level, whose quarters are of the level below
-module _ {codes levels : List ℕ} {k level code at : ℕ} (can : CanReadBlock codes levels k level code at) (up : 1 ≤ level) where
+module _ {levels : List ℕ} {k level code at : ℕ} (can : CanReadBlock levels k level code at) (up : 1 ≤ level) where
   level_up : suc (level - 1) ≡ level
   level_up = omega arith
 
-  of_level : (r : ElementsRead) → ElementsMeet codes levels k (suc (level - 1)) code at r → ElementsMeet codes levels k level code at r
-  of_level r = subst (λ (l : ℕ). ElementsMeet codes levels k l code at r) level_up
-
   aligned_up : Aligned (suc (level - 1)) code
-  aligned_up = rw level_up can.aligned
+  aligned_up = rw (level_up) can.aligned
+
+module _ {codes levels : List ℕ} {k level code at : ℕ} (can : CanReadBlock levels k level code at) (up : 1 ≤ level) where
+  of_level : (r : Option ElementsRead) → ElementsMeet codes levels k (suc (level - 1)) code at r → ElementsMeet codes levels k level code at r
+  of_level r = subst (λ (l : ℕ). ElementsMeet codes levels k l code at r) (level_up can up)
 
   pub no_quarter_read : QuartersRead codes levels k (level - 1) code at 0 at code 4
-  no_quarter_read = none_read can.k_from aligned_up can.at_to
+  no_quarter_read = none_read can.k_from (aligned_up can up) can.at_to
 
   module _ {count next place n : ℕ} (s : QuartersRead codes levels k (level - 1) code at count next place n) where
-    pub all_read : n ≤ 0 → ElementsMeet codes levels k level code at (Elements count next)
-    all_read none = let z : n ≡ 0 = omega arith in of_level (Elements count next) (four_read can.k_from aligned_up (rw z at s))
+    pub all_read : n ≤ 0 → ElementsMeet codes levels k level code at (elements count next)
+    all_read none = let z : n ≡ 0 = omega arith in of_level (elements count next) (four_read can.k_from (aligned_up can up) (rw z at s))
 
     module _ (some : 0 < n) where
       -- the next quarter ends before 2 ^ 32
@@ -154,10 +155,9 @@ module _ {codes levels : List ℕ} {k level code at : ℕ} (can : CanReadBlock c
           go zero some ends = absurd (omega arith)
           go (suc m) some ends = omega (arith, size_of_quarters level up, can.code_to)
 
-      pub quarter_can : CanReadBlock codes levels k (level - 1) place next
+      pub quarter_can : CanReadBlock levels k (level - 1) place next
       quarter_can =
           record {
-            columns = can.columns;
             k_from = can.k_from;
             k_to = can.k_to;
             level_to = omega (arith, can.level_to);
@@ -172,13 +172,14 @@ module _ {codes levels : List ℕ} {k level code at : ℕ} (can : CanReadBlock c
       next_left : QuartersRead codes levels k (level - 1) code at count next place (suc (n - 1))
       next_left = let e : suc (n - 1) ≡ n = omega arith in rw e s
 
-      module _ {r : ElementsRead} (one : QuarterMeets codes levels k (level - 1) place next r) where
-        pub quarter_wrong : r ≡ Wrong → ElementsMeet codes levels k level code at Wrong
-        quarter_wrong is-wrong = of_level Wrong (wrong_read can.k_from (n - 1) next_left one is-wrong)
+      module _ {r : Option ElementsRead} (one : QuarterMeets codes levels k (level - 1) place next r) where
+        pub quarter_wrong : r ≡ wrong → ElementsMeet codes levels k level code at wrong
+        quarter_wrong is-wrong = of_level wrong (wrong_read can.k_from (n - 1) next_left one is-wrong)
 
-        module _ {more after : ℕ} (answered : r ≡ Elements more after) where
+        module _ {more after : ℕ} (answered : r ≡ elements more after) where
           pub count_fits : count + more < 4294967296
           count_fits = omega (arith, s.count_to, (rw answered at one.sound).count_to)
 
-          pub next_quarter_read : {size : ℕ} → size ≡ 4 ^ (level - 1) → QuartersRead codes levels k (level - 1) code at (count + more) after (place + size) (n - 1)
-          next_quarter_read is = rw is (one_read can.k_from (n - 1) next_left (rw answered at one))
+          pub next_quarter_read : {size rest : ℕ} → size ≡ 4 ^ (level - 1) → rest ≡ n - 1
+              → QuartersRead codes levels k (level - 1) code at (count + more) after (place + size) rest
+          next_quarter_read is one_less = rw (is, one_less) (one_read can.k_from (n - 1) next_left (rw answered at one))

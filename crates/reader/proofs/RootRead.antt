@@ -19,16 +19,17 @@ use Rattle.pktree.proofs.EntryOrder.{pixel_entries_of_tree}
 use Rattle.measures.specs.Decides.{Decides}
 use Rattle.measures.proofs.Decides.{decided_true, decided_false, eqb_decides}
 use Rattle.reader.specs.declared.ElementsRead.{ElementsRead}
-use Rattle.reader.specs.declared.ElementsRead.TheVariants.{Elements, Wrong}
+use Rattle.std.specs.Prelude.{Option}
 use Rattle.image.specs.Parts.{entry_number, pixel_number, codes_part, levels_part, entries_of, pixels_of}
 use Rattle.image.specs.Judged.{ImageOfSome}
 use Rattle.reader.specs.PixelCount.{pixel_levels}
-use Rattle.reader.specs.Reading.{entries_from, EntryIs, CanReadBlock, elements_of, ReadAs, ElementsMeet, CanRead, most_of_block}
+use Rattle.reader.specs.Reading.{elements, wrong, entries_from, EntryIs, CanReadBlock, elements_of, ReadAs, ElementsMeet, CanRead, most_of_block}
 use Rattle.reader.proofs.BlockSize.{panel_size}
 use Rattle.reader.proofs.EntriesFrom.{FirstIs, entry_first, entries_from_end, first_entry}
 use Rattle.image.proofs.EntryParts.{length_entries_at}
 use Rattle.image.proofs.ImageBytes.{Bytes, length_codes, length_levels, bytes_again}
 use Rattle.image.proofs.ImageOfSet.{image_tells_entries, image_tells_pixels}
+use Rattle.reader.proofs.ForestRead.{same_read}
 use Rattle.reader.proofs.PixelNumber.{pixel_entries_number}
 
 -- what the parts tell
@@ -101,10 +102,9 @@ module _ {order k : ℕ} {bytes codes levels : List ℕ} (can : CanRead (panel_w
       root_there : EntryIs codes levels 0 order 0
       root_there = decided_true is_true decides
 
-      pub root_can : CanReadBlock codes levels k order 0 1
+      pub root_can : CanReadBlock levels k order 0 1
       root_can =
           record {
-            columns = told.columns;
             k_from = can.valid.k_from;
             k_to = can.valid.k_to;
             level_to = can.valid.order_to;
@@ -113,9 +113,9 @@ module _ {order k : ℕ} {bytes codes levels : List ℕ} (can : CanRead (panel_w
             at_to = root_there.below;
           }
 
-      module _ {r : ElementsRead} (root : ElementsMeet codes levels k order 0 1 r) where
+      module _ {r : Option ElementsRead} (root : ElementsMeet codes levels k order 0 1 r) where
         -- the elements of an image's root are read, up to the last entry
-        root_told : (some : ImageOfSome (panel_with order k) bytes) → (count : ℕ) × (r ≡ Elements count (length levels))
+        root_told : (some : ImageOfSome (panel_with order k) bytes) → (count : ℕ) × (r ≡ elements count (length levels))
         root_told some =
             let es : Forest = gather (member some.set) k order 0 in
             let n : 1 + length (entries es) ≡ length levels =
@@ -125,14 +125,14 @@ module _ {order k : ℕ} {bytes codes levels : List ℕ} (can : CanRead (panel_w
               length-append (entries es) [],
               length_entries_at codes levels (length levels - 0) 0,
             ) in
-            (size es, root.complete (member some.set) [] (image_begins some).after tt ∙ ap (Elements (size es)) n)
+            (size es, root.complete (member some.set) [] (image_begins some).after tt ∙ ap (elements (size es)) n)
 
-        pub root_wrong : r ≡ Wrong → ImageOfSome (panel_with order k) bytes → ⊥
+        pub root_wrong : r ≡ wrong → ImageOfSome (panel_with order k) bytes → ⊥
         root_wrong is-wrong some = let e = (root_told some).1 in let z : ◌≡◌ {A = ℕ} 0 1 = cc in omega arith
 
-        module _ {count next : ℕ} (answered : r ≡ Elements count next) where
+        module _ {count next : ℕ} (answered : r ≡ elements count next) where
           pub entries_unread : next < length levels → ImageOfSome (panel_with order k) bytes → ⊥
-          entries_unread short some = let e = (root_told some).1 in let z : next ≡ length levels = cc in omega arith
+          entries_unread short some = omega (arith, (same_read (sym answered ∙ (root_told some).1)).1)
 
           pub pixels_decide : {counted said n : ℕ} → Bytes bytes → length levels ≤ next → counted ≡ pixel_levels levels → said ≡ pixel_number bytes → n ≡ said
               → Decides (eqb counted n) (ImageOfSome (panel_with order k) bytes)

@@ -1,14 +1,11 @@
 -- Entries read as the elements of a block: what a reader is given, and what it answers.
-use Rattle.std.specs.Prelude.{ℕ, ◌+◌, ◌-◌, ◌*◌, ◌^◌, ◌≤◌, ◌<◌, ◌≡◌, Bool, List, [], ◌∷◌, ◌++◌, length, get_or}
+use Rattle.std.specs.Prelude.{ℕ, ◌+◌, ◌-◌, ◌*◌, ◌^◌, ◌≤◌, ◌<◌, ◌≡◌, Bool, List, [], ◌∷◌, ◌++◌, length, get_or, Option, Some, None}
 use Rattle.pktree.specs.Panel.{Panel, Valid, Aligned}
 use Rattle.pktree.specs.Elements.{Forest, size, give, gather}
 use Rattle.pktree.specs.Entries.{Entry, entries}
 use Rattle.image.specs.Parts.{four_at, entries_at}
 use Rattle.image.specs.Judged.{WellFormed}
-use Rattle.reader.specs.declared.NextEntry.{NextEntry}
-use Rattle.reader.specs.declared.NextEntry.TheVariants.{Found, Nothing}
 use Rattle.reader.specs.declared.ElementsRead.{ElementsRead}
-use Rattle.reader.specs.declared.ElementsRead.TheVariants.{Elements, Wrong}
 
 -- all entries from this index on
 abbrev pub entries_from : List ℕ → List ℕ → ℕ → List Entry
@@ -26,9 +23,9 @@ pub record EntryInside (codes levels : List ℕ) (at from to level code : ℕ) :
   pub low : from ≤ code
   pub high : code < to
 
-abbrev pub EntryMeets : List ℕ → List ℕ → ℕ → ℕ → ℕ → NextEntry → Type 0
-EntryMeets codes levels at from to (Found level code) = EntryInside codes levels at from to level code
-EntryMeets codes levels at from to Nothing = (level code : ℕ) → EntryInside codes levels at from to level code → ⊥
+abbrev pub EntryMeets : List ℕ → List ℕ → ℕ → ℕ → ℕ → Option (ℕ × ℕ) → Type 0
+EntryMeets codes levels at from to (Some e) = EntryInside codes levels at from to e.0 e.1
+EntryMeets codes levels at from to None = (level code : ℕ) → EntryInside codes levels at from to level code → ⊥
 
 -- an element of this level and code can stand in a quarter of level `quarter`: it is no larger, and aligned
 pub record FitsQuarter (quarter level code : ℕ) : Type 0 where
@@ -36,8 +33,7 @@ pub record FitsQuarter (quarter level code : ℕ) : Type 0 where
   pub aligned : Aligned level code
 
 -- a block of codes below 2 ^ 32, and an index up to the number of entries
-pub record CanReadBlock (codes levels : List ℕ) (k level code at : ℕ) : Type 0 where
-  pub columns : length codes ≡ 4 * length levels
+pub record CanReadBlock (levels : List ℕ) (k level code at : ℕ) : Type 0 where
   pub k_from : 2 ≤ k
   pub k_to : k ≤ 16
   pub level_to : level ≤ 16
@@ -57,6 +53,14 @@ abbrev pub From : ℕ → List Entry → Type 0
 From code [] = Unit {0}
 From code (e ∷ l) = code ≤ e.code
 
+-- so many elements, and the index after their entries
+abbrev pub elements : ℕ → ℕ → Option ElementsRead
+elements count next = Some (record { count = count; next = next })
+
+-- no set has these entries
+abbrev pub wrong : Option ElementsRead
+wrong = None
+
 -- of some marked codes, these elements have the entries from `at` to before `next`
 pub record ReadAs (of : (ℕ → Bool) → Forest) (codes levels : List ℕ) (at most count next : ℕ) : Type 0 where
   pub marked : ℕ → Bool
@@ -65,15 +69,15 @@ pub record ReadAs (of : (ℕ → Bool) → Forest) (codes levels : List ℕ) (at
   pub count_to : count ≤ most
   pub next_to : next ≤ length levels
 
-abbrev pub ReadSound : ((ℕ → Bool) → Forest) → List ℕ → List ℕ → ℕ → ℕ → ElementsRead → Type 0
-ReadSound of codes levels at most (Elements count next) = ReadAs of codes levels at most count next
-ReadSound of codes levels at most Wrong = Unit {0}
+abbrev pub ReadSound : ((ℕ → Bool) → Forest) → List ℕ → List ℕ → ℕ → ℕ → Option ElementsRead → Type 0
+ReadSound of codes levels at most (Some r) = ReadAs of codes levels at most r.count r.next
+ReadSound of codes levels at most None = Unit {0}
 
 -- what is answered is there; what is there, with nothing of the codes before `end` after it, is answered
-pub record ReadMeets (of : (ℕ → Bool) → Forest) (codes levels : List ℕ) (end at most : ℕ) (r : ElementsRead) : Type 0 where
+pub record ReadMeets (of : (ℕ → Bool) → Forest) (codes levels : List ℕ) (end at most : ℕ) (r : Option ElementsRead) : Type 0 where
   pub sound : ReadSound of codes levels at most r
   pub complete : (marked : ℕ → Bool) (rest : List Entry) → entries_from codes levels at ≡ entries (of marked) ++ rest → From end rest
-      → r ≡ Elements (size (of marked)) (at + length (entries (of marked)))
+      → r ≡ elements (size (of marked)) (at + length (entries (of marked)))
 
 -- a block has 4 (k - 1) elements at most, and a quarter gives k - 1 at most; k is up to 16
 abbrev pub most_of_block : ℕ
@@ -82,10 +86,10 @@ most_of_block = 60
 abbrev pub most_given : ℕ
 most_given = 15
 
-abbrev pub ElementsMeet : List ℕ → List ℕ → ℕ → ℕ → ℕ → ℕ → ElementsRead → Type 0
+abbrev pub ElementsMeet : List ℕ → List ℕ → ℕ → ℕ → ℕ → ℕ → Option ElementsRead → Type 0
 ElementsMeet codes levels k level code at r = ReadMeets (elements_of k level code) codes levels (code + 4 ^ level) at most_of_block r
 
-abbrev pub QuarterMeets : List ℕ → List ℕ → ℕ → ℕ → ℕ → ℕ → ElementsRead → Type 0
+abbrev pub QuarterMeets : List ℕ → List ℕ → ℕ → ℕ → ℕ → ℕ → Option ElementsRead → Type 0
 QuarterMeets codes levels k level code at r = ReadMeets (quarter_of k level code) codes levels (code + 4 ^ level) at most_given r
 
 -- 12 is asked of an image that 10 and 11 leave: its sizes are the panel's

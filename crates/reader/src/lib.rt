@@ -1,7 +1,7 @@
 // Reading an image: who is refused with 12. It takes bytes and panel, no store and no N.
 #![tactic(auto)]
 
-ghost use Rattle.std.specs.Prelude.{◌+◌, ◌*◌, ◌^◌, ◌≤◌, ◌<◌, ◌≡◌, length};
+ghost use Rattle.std.specs.Prelude.{◌*◌, ◌≤◌, ◌<◌, ◌≡◌, length};
 ghost use Rattle.measures.specs.Decides.{Decides};
 ghost use Rattle.image.specs.Judged.{ImageOfSome};
 ghost use Rattle.reader.specs.PixelCount.{pixel_levels};
@@ -9,52 +9,118 @@ ghost use Rattle.reader.specs.Reading.{EntryIs, EntryMeets, FitsQuarter, CanRead
 
 use image::parts::{byte_at, code_at, codes_part, levels_part, pixel_number};
 use measures::slots::wide;
-use morton::block_size;
+use morton::{block_end, block_size};
 
-// How many elements stand at an index, and the index after their entries; or no set has these entries.
+// How many elements stand at an index, and the index after their entries.
 #[derive(Clone, Copy)]
-pub enum ElementsRead {
-    Elements { count: u32, next: usize },
-    Wrong,
+pub struct ElementsRead {
+    pub count: u32,
+    pub next: usize,
 }
 
-// The level and code of the entry that comes next, or none comes next.
+// The entries of an image, by their codes and levels, and the panel's k.
 #[derive(Clone, Copy)]
-pub enum NextEntry {
-    Found(u32, usize),
-    Nothing,
+pub struct Entries<'a> {
+    codes: &'a [u8],
+    levels: &'a [u8],
+    k: u32,
+    ghost columns: { length codes.now ≡ 4 * length levels.now },
 }
 
-// Has the entry at this index this level and code?
-fn is_entry(codes: &[u8], levels: &[u8], at: usize, level: u32, code: usize) -> bool
-    requires { length codes.now ≡ 4 * length levels.now }
-    ensures { Decides result (EntryIs codes.now levels.now at level code) }
-{
-    if levels.len() <= at {
-        return false;
+impl<'a> Entries<'a> {
+    // Has the entry at this index this level and code?
+    fn is_entry(&self, at: usize, level: u32, code: usize) -> bool
+        ensures { Decides result (EntryIs self.now.codes.now self.now.levels.now at level code) }
+    {
+        if self.levels.len() <= at {
+            return false;
+        }
+        if byte_at(self.levels, at) != level {
+            return false;
+        }
+        wide(code_at(self.codes, at)) == code
     }
-    if byte_at(levels, at) != level {
-        return false;
-    }
-    wide(code_at(codes, at)) == code
-}
 
-// The entry at this index, if its code lies from `from` to below `to`.
-fn next_entry(codes: &[u8], levels: &[u8], at: usize, from: usize, to: usize) -> NextEntry
-    requires { length codes.now ≡ 4 * length levels.now }
-    ensures { EntryMeets codes.now levels.now at from to result }
-{
-    if levels.len() <= at {
-        return NextEntry::Nothing;
+    // The level and code of the entry at this index, if its code lies from `from` to below `to`.
+    fn next_entry(&self, at: usize, from: usize, to: usize) -> Option<(u32, usize)>
+        ensures { EntryMeets self.now.codes.now self.now.levels.now at from to result }
+    {
+        if self.levels.len() <= at {
+            return None;
+        }
+        let code = wide(code_at(self.codes, at));
+        if code < from {
+            return None;
+        }
+        if to <= code {
+            return None;
+        }
+        Some((byte_at(self.levels, at), code))
     }
-    let code = wide(code_at(codes, at));
-    if code < from {
-        return NextEntry::Nothing;
+
+    // The elements of the block of this level and code, quarter by quarter; or no set has these entries.
+    #[cycle(read_element_read_elements_read_quarter)]
+    fn read_elements(&self, level: u32, code: usize, at: usize) -> Option<ElementsRead>
+        requires { CanReadBlock self.now.levels.now self.now.k level code at × (1 ≤ level) }
+        ensures { ElementsMeet self.now.codes.now self.now.levels.now self.now.k level code at result }
+    {
+        let inner = level - 1;
+        let size = block_size(inner);
+        let mut count = 0;
+        let mut next = at;
+        let mut place = code;
+        for _ in 0..4u32 {
+            let quarter = self.read_quarter(inner, place, next)?;
+            count += quarter.count;
+            next = quarter.next;
+            place += size;
+        }
+        Some(ElementsRead { count, next })
     }
-    if to <= code {
-        return NextEntry::Nothing;
+
+    // What a quarter gives: the elements in it, one after another, fewer than k; where its own entry claims it, the quarter is that one element.
+    #[cycle(read_element_read_elements_read_quarter)]
+    fn read_quarter(&self, level: u32, code: usize, at: usize) -> Option<ElementsRead>
+        requires { CanReadBlock self.now.levels.now self.now.k level code at }
+        ensures { QuarterMeets self.now.codes.now self.now.levels.now self.now.k level code at result }
+    {
+        let end = block_end(level, code);
+        let mut count = 0;
+        let mut next = at;
+        let mut place = code;
+        while let Some((inner, start)) = self.next_entry(next, place, end) {
+            if !fits_quarter(level, inner, start) {
+                return None;
+            }
+            let element = self.read_element(inner, start, next)?;
+            count += element.count;
+            if self.k <= count {
+                return None;
+            }
+            next = element.next;
+            place = block_end(inner, start);
+        }
+        Some(ElementsRead { count, next })
     }
-    NextEntry::Found(byte_at(levels, at), code)
+
+    // The element whose entry stands at this index: a pixel, or a claimed block, and k elements or more must be in it.
+    #[cycle(read_element_read_elements_read_quarter)]
+    fn read_element(&self, level: u32, code: usize, at: usize) -> Option<ElementsRead>
+        requires { CanReadBlock self.now.levels.now self.now.k level code at × EntryIs self.now.codes.now self.now.levels.now at level code }
+        ensures { QuarterMeets self.now.codes.now self.now.levels.now self.now.k level code at result }
+    {
+        if level < 1 {
+            return Some(ElementsRead {
+                count: 1,
+                next: at + 1,
+            });
+        }
+        let inside = self.read_elements(level, code, at + 1)?;
+        if inside.count < self.k {
+            return None;
+        }
+        Some(ElementsRead { count: 1, ..inside })
+    }
 }
 
 // Can an element of this level and code stand in a quarter of level `quarter`? It is no larger, and aligned.
@@ -69,134 +135,11 @@ fn fits_quarter(quarter: u32, level: u32, code: usize) -> bool
     (code >> bits) << bits == code
 }
 
-// The first code past a block.
-fn block_end(level: u32, code: usize) -> usize
-    requires { (level ≤ 16) × (code + 4 ^ level ≤ 4294967296) }
-    ensures { result ≡ code + 4 ^ level }
-{
-    code + block_size(level)
-}
-
-// The elements of the block of this level and code, quarter by quarter.
-#[cycle(read_element_read_elements_read_quarter)]
-fn read_elements(
-    codes: &[u8],
-    levels: &[u8],
-    k: u32,
-    level: u32,
-    code: usize,
-    at: usize,
-) -> ElementsRead
-    requires { CanReadBlock codes.now levels.now k level code at × (1 ≤ level) }
-    ensures { ElementsMeet codes.now levels.now k level code at result }
-{
-    let inner = level - 1;
-    let size = block_size(inner);
-    let mut count = 0;
-    let mut next = at;
-    let mut place = code;
-    let mut left = 4u32;
-    while 0 < left {
-        let ElementsRead::Elements {
-            count: more,
-            next: n,
-        } = read_quarter(codes, levels, k, inner, place, next)
-        else {
-            return ElementsRead::Wrong;
-        };
-        count += more;
-        next = n;
-        place += size;
-        left -= 1;
-    }
-    ElementsRead::Elements { count, next }
-}
-
-// What a quarter gives: the elements in it, one after another, fewer than k; where its own entry claims it, the quarter is that one element.
-#[cycle(read_element_read_elements_read_quarter)]
-fn read_quarter(
-    codes: &[u8],
-    levels: &[u8],
-    k: u32,
-    level: u32,
-    code: usize,
-    at: usize,
-) -> ElementsRead
-    requires { CanReadBlock codes.now levels.now k level code at }
-    ensures { QuarterMeets codes.now levels.now k level code at result }
-{
-    let end = block_end(level, code);
-    let mut count = 0;
-    let mut next = at;
-    let mut place = code;
-    loop {
-        let NextEntry::Found(inner, start) = next_entry(codes, levels, next, place, end) else {
-            return ElementsRead::Elements { count, next };
-        };
-        if !fits_quarter(level, inner, start) {
-            return ElementsRead::Wrong;
-        }
-        let ElementsRead::Elements {
-            count: more,
-            next: n,
-        } = read_element(codes, levels, k, inner, start, next)
-        else {
-            return ElementsRead::Wrong;
-        };
-        count += more;
-        if k <= count {
-            return ElementsRead::Wrong;
-        }
-        next = n;
-        place = block_end(inner, start);
-    }
-}
-
-// The element whose entry stands at this index: a pixel, or a claimed block, and k elements or more must be in it.
-#[cycle(read_element_read_elements_read_quarter)]
-fn read_element(
-    codes: &[u8],
-    levels: &[u8],
-    k: u32,
-    level: u32,
-    code: usize,
-    at: usize,
-) -> ElementsRead
-    requires { CanReadBlock codes.now levels.now k level code at × EntryIs codes.now levels.now at level code }
-    ensures { QuarterMeets codes.now levels.now k level code at result }
-{
-    if level < 1 {
-        return ElementsRead::Elements {
-            count: 1,
-            next: at + 1,
-        };
-    }
-    let ElementsRead::Elements {
-        count: inside,
-        next,
-    } = read_elements(codes, levels, k, level, code, at + 1)
-    else {
-        return ElementsRead::Wrong;
-    };
-    if inside < k {
-        return ElementsRead::Wrong;
-    }
-    ElementsRead::Elements { count: 1, next }
-}
-
 // The number of entries of level 0.
 fn count_pixels(levels: &[u8]) -> usize
     ensures { result ≡ pixel_levels levels.now }
 {
-    let mut count = 0;
-    let mut at = levels.len();
-    while 0 < at {
-        at -= 1;
-        if levels[at] == 0 {
-            count += 1;
-        }
-    }
-    count
+    levels.iter().filter(|level| **level == 0).count()
 }
 
 // Refusal 12's condition: the root's entry, then its elements, then no entry more, and n of them are pixels.
@@ -204,17 +147,19 @@ pub fn is_image_of_some(image: &[u8], order: u32, k: u32) -> bool
     requires { CanRead (record { order = order; k = k }) image.now }
     ensures { Decides result (ImageOfSome (record { order = order; k = k }) image.now) }
 {
-    let codes = codes_part(image);
-    let levels = levels_part(image);
-    if !is_entry(codes, levels, 0, order, 0) {
+    let entries = Entries {
+        codes: codes_part(image),
+        levels: levels_part(image),
+        k,
+    };
+    if !entries.is_entry(0, order, 0) {
         return false;
     }
-    let ElementsRead::Elements { count: _, next } = read_elements(codes, levels, k, order, 0, 1)
-    else {
+    let Some(root) = entries.read_elements(order, 0, 1) else {
         return false;
     };
-    if next < levels.len() {
+    if root.next < entries.levels.len() {
         return false;
     }
-    count_pixels(levels) == wide(pixel_number(image))
+    count_pixels(entries.levels) == wide(pixel_number(image))
 }

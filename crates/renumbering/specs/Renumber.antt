@@ -1,5 +1,5 @@
 -- 02, P6: the numbers of the blocks of a path, with one pixel more or less.
-use Rattle.std.specs.Prelude.{ℕ, zero, suc, ◌+◌, ◌-◌, ◌≤◌, ◌<◌, ◌≡◌, List, [], ◌∷◌, length, get_or, take, drop, set}
+use Rattle.std.specs.Prelude.{ℕ, zero, suc, ◌+◌, ◌-◌, ◌≤◌, ◌<◌, ◌≡◌, List, [], ◌∷◌, length, take, drop, set}
 use Rattle.measures.specs.Words.{head_words}
 use Rattle.measures.specs.Sizes.{largest_most}
 use Rattle.measures.specs.declared.sizes.Layout.{Layout}
@@ -8,6 +8,8 @@ use Rattle.measures.specs.Slot.{slot_part, level_word, code_word, count_word, ne
 use Rattle.measures.proofs.SlotWrites.{SlotWritten}
 use Rattle.freeslots.specs.FreeSlots.{occurrences}
 use Rattle.descent.specs.declared.Located.{Located}
+use Rattle.descent.specs.declared.Passed.{Passed}
+use Rattle.descent.specs.Located.{passed_at}
 
 -- a number that a register can have, with one pixel less or more
 pub record ChangedNumber (number removed inserted r : ℕ) : Type 0 where
@@ -28,15 +30,15 @@ pub record SameBlock (before after : List ℕ) : Type 0 where
   pub elements_are : element_part after ≡ element_part before
 
 -- the slots of the blocks that were passed, the last first
-abbrev pub path_slots : List ℕ → ℕ → List ℕ
-path_slots slots zero = []
-path_slots slots (suc n) = get_or slots n 0 ∷ path_slots slots n
+abbrev pub path_slots : List Passed → ℕ → List ℕ
+path_slots passed zero = []
+path_slots passed (suc n) = (passed_at passed n).slot ∷ path_slots passed n
 
-pub record CanRenumber (layout : Layout) (words : List ℕ) (located : Located) (slots : List ℕ) (removed inserted : ℕ) : Type 0 where
+pub record CanRenumber (layout : Layout) (words : List ℕ) (located : Located) (path : List Passed) (removed inserted : ℕ) : Type 0 where
   pub fits : LayoutFits layout words
-  pub slot_below : located.slot < layout.slots
+  pub slot_below : located.block.slot < layout.slots
   pub deep : located.depth ≤ 16
-  pub path_below : (i : ℕ) → i < located.depth → get_or slots i 0 < layout.slots
+  pub path_below : (i : ℕ) → i < located.depth → (passed_at path i).slot < layout.slots
   pub removed_to : removed ≤ 1
   pub inserted_to : inserted ≤ 1
 

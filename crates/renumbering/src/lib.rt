@@ -5,7 +5,7 @@ ghost use Rattle.std.specs.Prelude.{◌≤◌, ◌<◌, ◌∷◌};
 ghost use Rattle.measures.specs.Layout.{LayoutFits};
 ghost use Rattle.renumbering.specs.Renumber.{ChangedNumber, Renumbered, CanRenumber, PathRenumbered, path_slots};
 
-use descent::{Located, PATH_LENGTH};
+use descent::{Located, Path};
 use measures::sizes::Layout;
 use measures::slots::{NUMBER, offset, wide};
 
@@ -34,18 +34,15 @@ pub fn renumber_path(
     store: &mut [u32],
     layout: Layout,
     located: Located,
-    slots: &[u32; PATH_LENGTH],
+    path: &Path,
     removed: usize,
     inserted: usize,
 )
-    requires { CanRenumber layout store.old located slots.now removed inserted }
-    ensures { PathRenumbered layout (located.slot ∷ path_slots slots.now located.depth) removed inserted store.old store.new }
+    requires { CanRenumber layout store.old located path.now removed inserted }
+    ensures { PathRenumbered layout (located.block.slot ∷ path_slots path.now located.depth) removed inserted store.old store.new }
 {
-    let depth = located.depth;
-    let mut i = 0;
-    while i < depth {
-        renumber_slot(store, layout, wide(slots[i]), removed, inserted);
-        i += 1;
+    for entry in &path[..located.depth] {
+        renumber_slot(store, layout, wide(entry.slot), removed, inserted);
     }
-    renumber_slot(store, layout, wide(located.slot), removed, inserted);
+    renumber_slot(store, layout, wide(located.block.slot), removed, inserted);
 }

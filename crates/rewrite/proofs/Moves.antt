@@ -8,8 +8,7 @@ use lib.ListN.{length}
 use lib.Seq.{paste}
 use Rattle.measures.specs.Words.{first_free_word}
 use Rattle.measures.specs.declared.sizes.Layout.{Layout}
-use Rattle.freeslots.specs.declared.FreeSlot.{FreeSlot}
-use Rattle.freeslots.specs.declared.FreeSlot.TheVariants.{Taken}
+use Rattle.std.proofs.Common.{Option, Some}
 use Rattle.elements.specs.Element.{block_tag}
 use Rattle.measures.specs.Layout.{LayoutFits, most_elements, most_slots}
 use Rattle.measures.specs.Slot.{slot_part, count_word, number_word, OnlySlot, element_index, slot_head}
@@ -43,7 +42,7 @@ run_few can = omega (arith, can.laid, can.within, can.fits.within.width_to)
 
 -- a free slot taken changes no slot, so a run that lay in one lies there still
 cut_still : {layout : Layout} {slot level first size fresh : ℕ} {before taken : List ℕ} → CanCut layout before slot level first size
-    → TookFree layout before taken (Taken fresh) → CanCut layout taken slot level first size
+    → TookFree layout before taken (Some fresh) → CanCut layout taken slot level first size
 cut_still {slot = slot} can took =
     let h = head_taken_lem took in
     record {
@@ -98,9 +97,9 @@ only_twice p q = record {
 }
 
 -- the steps of forming a block, with the free slot as code has it: in an enum, and then its number as a size
-module _ {layout : Layout} {slot level first size : ℕ} {before : List ℕ} (taken : List ℕ) (free : FreeSlot) (fresh : ℕ) (is : free ≡ Taken fresh)
+module _ {layout : Layout} {slot level first size : ℕ} {before : List ℕ} (taken : List ℕ) (free : Option ℕ) (fresh : ℕ) (is : free ≡ Some fresh)
     (took' : TookFree layout before taken free) (can : CanCut layout before slot level first size) where
-  took : TookFree layout before taken (Taken fresh)
+  took : TookFree layout before taken (Some fresh)
   took = rw is at took'
 
   still : CanCut layout taken slot level first size

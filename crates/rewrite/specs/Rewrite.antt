@@ -1,5 +1,5 @@
 -- What rewriting a slot leaves, in words.
-use Rattle.std.specs.Prelude.{ℕ, ◌+◌, ◌-◌, ◌*◌, ◌≤◌, ◌<◌, ◌≡◌, List, [], ◌∷◌, ◌++◌, length, take, drop}
+use Rattle.std.specs.Prelude.{ℕ, ◌+◌, ◌-◌, ◌*◌, ◌≤◌, ◌<◌, ◌≡◌, List, [], ◌∷◌, ◌++◌, length, take, drop, Result, Ok, Err}
 use Rattle.std.proofs.Math.Seq.{paste}
 use Rattle.elements.specs.Element.{block_tag}
 use Rattle.measures.specs.Words.{head_words, blocks_word, first_free_word}
@@ -11,8 +11,7 @@ use Rattle.freeslots.specs.FreeSlots.{Released}
 use Rattle.sums.specs.Sum.{number_of_elements}
 use Rattle.freeslots.proofs.FreeChains.{head_taken}
 use Rattle.measures.proofs.SlotWrites.{SlotWritten}
-use Rattle.rewrite.specs.declared.Forming.{Forming}
-use Rattle.rewrite.specs.declared.Forming.TheVariants.{Formed, NoSlot}
+use Rattle.store.specs.declared.Damaged.{Damaged}
 
 -- a slot's words say this level, this code and elements of these words
 pub record SlotNow (part : List ℕ) (level code : ℕ) (elements : List ℕ) : Type 0 where
@@ -91,9 +90,10 @@ pub record BlockFormed (layout : Layout) (slot level code first size fresh : ℕ
       → number_word (slot_part layout.width after fresh) ≡ number_of_elements layout before size (run_words (elements_in (slot_part layout.width before slot)) first size)
   pub number_kept : (fresh ≡ slot → ⊥) → number_word (slot_part layout.width after slot) ≡ number_word (slot_part layout.width before slot)
 
-abbrev pub FormMeets : Layout → ℕ → ℕ → ℕ → ℕ → ℕ → List ℕ → List ℕ → Forming → Type 0
-FormMeets layout slot level code first size before after Formed = BlockFormed layout slot level code first size (first_free_word before) before after
-FormMeets layout slot level code first size before after NoSlot =
+-- it is formed; or nothing is written, since there is no free slot
+abbrev pub FormMeets : Layout → ℕ → ℕ → ℕ → ℕ → ℕ → List ℕ → List ℕ → Result (Unit {0}) Damaged → Type 0
+FormMeets layout slot level code first size before after (Ok _) = BlockFormed layout slot level code first size (first_free_word before) before after
+FormMeets layout slot level code first size before after (Err _) =
     (after ≡ before)
     × (first_free_word before < layout.slots → level_word (slot_part layout.width before (first_free_word before)) ≡ 0 → blocks_word before < layout.slots → ⊥)
 

@@ -1,7 +1,7 @@
 // Rewriting slots: each is lent on for writing as a part of the store.
 #![tactic(auto)]
 
-ghost use Rattle.std.specs.Prelude.{◌+◌, ◌-◌, ◌*◌, ◌≤◌, ◌<◌, ◌≡◌, length};
+ghost use Rattle.std.specs.Prelude.{◌+◌, ◌*◌, ◌≤◌, ◌<◌, ◌≡◌, length};
 ghost use Rattle.std.proofs.Math.Seq.{paste};
 ghost use Rattle.measures.specs.Layout.{LayoutFits, most_elements};
 ghost use Rattle.measures.specs.Slot.{slot_part, element_index, slot_head};
@@ -11,10 +11,11 @@ ghost use Rattle.measures.proofs.SlotWrites.{SlotWritten};
 ghost use Rattle.rewrite.specs.Rewrite.{RunWithin, CanCut, CanLayBeside, CanHandUp, run_words, SplicedSlot, RunMoved, LaidBeside, FormMeets, HandedUpBlock, HandedUpAll};
 
 use elements::{block_tag, copy_words, splice, write_header};
-use freeslots::{FreeSlot, release, take_free};
+use freeslots::{release, take_free};
 use measures::sizes::Layout;
 use measures::slots::{COUNT, MOST_ELEMENT_WORDS, SLOT_HEAD, offset, slot_part, wide};
 use measures::words::BLOCKS;
+use store::Damaged;
 use sums::number_of_elements;
 
 // The elements of a slot written anew; its header is left to `head_slot`.
@@ -95,10 +96,13 @@ fn number_of_run(store: &[u32], layout: Layout, part: &[u32], first: usize, size
     number_of_elements(store, layout, &part[at..], size)
 }
 
+// A block that a run of a slot's elements is to become: its level and its code, and the run's first element and size.
 #[derive(Clone, Copy)]
-pub enum Forming {
-    Formed,
-    NoSlot,
+pub struct NewBlock {
+    pub level: u32,
+    pub code: u32,
+    pub first: usize,
+    pub size: usize,
 }
 
 // A run of a slot's elements becomes a block of its own, in a free slot, and one element in their place. The header of the free slot
@@ -107,38 +111,39 @@ pub fn form_block(
     store: &mut [u32],
     layout: Layout,
     slot: usize,
-    level: u32,
-    code: u32,
-    first: usize,
-    size: usize,
-) -> Forming
-    requires { CanCut layout store.old slot level first size × (1 ≤ size) }
-    ensures { FormMeets layout slot level code first size store.old store.new result }
+    block: NewBlock,
+) -> Result<(), Damaged>
+    requires { CanCut layout store.old slot block.level block.first block.size × (1 ≤ block.size) }
+    ensures { FormMeets layout slot block.level block.code block.first block.size store.old store.new result }
 {
-    let FreeSlot::Taken(fresh) = take_free(store, layout) else {
-        return Forming::NoSlot;
+    let NewBlock {
+        level,
+        code,
+        first,
+        size,
+    } = block;
+    let Some(fresh) = take_free(store, layout) else {
+        return Err(Damaged);
     };
     let number = number_of_run(store, layout, slot_part(store, layout, slot), first, size);
     move_run(store, layout, slot, first, size, wide(fresh));
     let one = [code, block_tag(fresh, level)];
     splice_slot(store, layout, slot, first, size, &one, 1);
     head_slot(store, layout, wide(fresh), level, code, size, number);
-    Forming::Formed
+    Ok(())
 }
 
 // The elements beside a run, with the run as a block in this slot between them, laid in the scratch.
-fn lay_beside(
-    part: &[u32],
-    slot: usize,
-    level: u32,
-    code: u32,
-    first: usize,
-    size: usize,
-    scratch: &mut [u32],
-) -> usize
-    requires { CanLayBeside part.now slot level first size scratch.old }
-    ensures { LaidBeside part.now slot level code first size scratch.old scratch.new result }
+fn lay_beside(part: &[u32], slot: usize, block: NewBlock, scratch: &mut [u32]) -> usize
+    requires { CanLayBeside part.now slot block.level block.first block.size scratch.old }
+    ensures { LaidBeside part.now slot block.level block.code block.first block.size scratch.old scratch.new result }
 {
+    let NewBlock {
+        level,
+        code,
+        first,
+        size,
+    } = block;
     let left = wide(part[COUNT]) - first - size;
     copy_run(scratch, 0, part, 0, first);
     scratch[2 * first] = code;
@@ -153,38 +158,23 @@ pub fn hand_up_block(
     store: &mut [u32],
     layout: Layout,
     slot: usize,
-    level: u32,
-    code: u32,
-    first: usize,
-    size: usize,
+    block: NewBlock,
     scratch: &mut [u32],
 ) -> usize
-    requires { CanHandUp layout store.old slot level first size scratch.old }
-    ensures { HandedUpBlock layout slot level code first size store.old store.new scratch.old scratch.new result }
+    requires { CanHandUp layout store.old slot block.level block.first block.size scratch.old }
+    ensures { HandedUpBlock layout slot block.level block.code block.first block.size store.old store.new scratch.old scratch.new result }
 {
-    let rest = lay_beside(
-        slot_part(store, layout, slot),
-        slot,
+    let NewBlock {
         level,
         code,
         first,
         size,
-        scratch,
-    );
+    } = block;
+    let rest = lay_beside(slot_part(store, layout, slot), slot, block, scratch);
     let number = number_of_run(store, layout, slot_part(store, layout, slot), first, size);
     move_run(store, layout, slot, first, size, slot);
     head_slot(store, layout, slot, level, code, size, number);
     rest
-}
-
-// Damaged words may count no block where there is one.
-fn one_less(held: u32) -> u32
-    ensures { result ≡ held - 1 }
-{
-    if held < 1 {
-        return held;
-    }
-    held - 1
 }
 
 // An underfull block that forms none hands all its elements up, and its slot is free again.
@@ -196,7 +186,7 @@ pub fn hand_up_all(store: &mut [u32], layout: Layout, slot: usize, scratch: &mut
     let count = wide(part[COUNT]);
     copy_run(scratch, 0, part, 0, count);
     let held = store[BLOCKS];
-    let left = one_less(held);
-    release(store, layout, slot, left);
+    // Damaged words may count no block where there is one.
+    release(store, layout, slot, held.saturating_sub(1));
     count
 }

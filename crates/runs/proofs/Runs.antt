@@ -1,8 +1,10 @@
 -- The elements near a code: in ascending order those in one block around it are one run around its place.
-use Prim.Native.Nat.{ℕ, zero, suc, ◌+◌, ◌-◌, ◌/◌, ◌^◌, ◌≤◌, ◌<◌}
+use Prim.Native.Nat.{ℕ, zero, suc, ◌+◌, ◌-◌, ◌*◌, ◌/◌, ◌^◌, ◌≤◌, ◌<◌}
 use mathlib.Core.Path.{◌≡◌}
 use mathlib.Core.Logic.{⊎_elim}
 use mathlib.Core.List.{List}
+use lib.ListN.{length, get_or, take, drop}
+use Rattle.std.proofs.lemmas.List.{take_all, length-drop, get_or-drop}
 use native.Mathlib.Nat.{lt_of_not-le, le-div_iff_mul-le, div-mul-le_self, eq-or-lt_of_le, le_refl}
 use native.Mathlib.Omega.{arith}
 use native.Mathlib.Decide.{dec_lt, ℕ_discrete}
@@ -10,7 +12,9 @@ use borrow.Author.Tests.{eq-eqb, ne_eqb}
 use Rattle.morton.specs.CommonLevel.{CommonLevel}
 use Rattle.morton.proofs.Blocks.{block_up}
 use Rattle.pktree.proofs.Alignment.{pow_pos}
+use Rattle.measures.specs.Slot.{slot_head}
 use Rattle.elements.specs.Splice.{code_at, PlaceOf}
+use Rattle.elements.specs.RunStart.{RunStart}
 use Rattle.runs.specs.Run.{Near, codes_from, count_near, AscendingCodes, LevelBefore, LevelAt, ReachedLeft, ReachedRight, IsRun}
 
 -- all from left' up to right' are near, where x is and so are those from left up to right
@@ -26,6 +30,14 @@ near_with part level code x others here near i a b =
 -- codes whose common block is higher are not near
 not_near_at : {c code r : ℕ} (level : ℕ) → CommonLevel c code r → level < r → Near level code c → ⊥
 not_near_at level l h e = omega (arith, l.least level e)
+
+-- the words of the elements are the slot's past its head
+pub reached_left : {from code level r : ℕ} (part : List ℕ) → RunStart (take (length part - slot_head) (drop slot_head part)) from code level r → ReachedLeft part from code level r
+reached_left {from} {code} {level} part h =
+    let all : take (length part - slot_head) (drop slot_head part) ≡ drop slot_head part = take_all _ (drop slot_head part) (omega (arith, length-drop slot_head part)) in
+    let s : RunStart (drop slot_head part) from code level _ = rw all at h in
+    let word : (i : ℕ) → get_or (drop slot_head part) (2 * i) 0 ≡ code_at part i = λ i. get_or-drop slot_head part (2 * i) 0 in
+    record { within = s.within; near = λ i a b. rw (← word i) (s.near i a b); ends = λ i a e. s.ends i a (rw (word i) e) }
 
 -- a level of the panel is that of an element, which there is
 pub some_before : {part : List ℕ} {i code r : ℕ} → LevelBefore part i code r → r ≤ 16 → 0 < i

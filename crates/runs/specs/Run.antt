@@ -1,10 +1,9 @@
 -- The run of elements that a block to be formed takes: those in the block of the least level around a code that holds k of them.
-use Rattle.std.specs.Prelude.{ℕ, zero, suc, ◌+◌, ◌-◌, ◌/◌, ◌^◌, ◌≤◌, ◌<◌, ◌≡◌, List, [], ◌∷◌, eqb, length}
+use Rattle.std.specs.Prelude.{ℕ, zero, suc, ◌+◌, ◌-◌, ◌/◌, ◌^◌, ◌≤◌, ◌<◌, ◌≡◌, List, [], ◌∷◌, eqb, length, Option, Some, None}
 use Rattle.pktree.specs.Lists.{select}
 use Rattle.morton.specs.CommonLevel.{CommonLevel}
 use Rattle.elements.specs.Splice.{code_at}
 use Rattle.runs.specs.declared.RunFound.{RunFound}
-use Rattle.runs.specs.declared.RunFound.TheVariants.{Formed, Nothing}
 use Rattle.measures.specs.Layout.{most_elements, level_above_root}
 use Rattle.measures.specs.Slot.{element_index}
 
@@ -63,6 +62,6 @@ pub record RunFormed (part : List ℕ) (count level k code j first size : ℕ) :
   pub many : k ≤ size
   pub right : AscendingCodes part count → IsRun part count k code j first size
 
-abbrev pub RunMeets : List ℕ → ℕ → ℕ → ℕ → ℕ → RunFound → Type 0
-RunMeets part count level k code (Formed j first size) = RunFormed part count level k code j first size
-RunMeets part count level k code Nothing = AscendingCodes part count → (h : ℕ) → h < level → count_near h code (codes_from part 0 count) < k
+abbrev pub RunMeets : List ℕ → ℕ → ℕ → ℕ → ℕ → Option RunFound → Type 0
+RunMeets part count level k code (Some run) = RunFormed part count level k code run.level run.first run.length
+RunMeets part count level k code None = AscendingCodes part count → (h : ℕ) → h < level → count_near h code (codes_from part 0 count) < k

@@ -1,35 +1,33 @@
-ghost use Rattle.std.specs.Prelude.{◌≡◌};
 ghost use Rattle.saving.specs.Numbers.{NumbersAnswer};
-ghost use Rattle.measures.specs.Sizes.{UsableStore, sizes_of};
 
-use measures::sizes::{Sizes, layout_of};
-use measures::slots::{NUMBER, slot_part, wide};
+use measures::lent::Register;
+use measures::slots::{NUMBER, wide};
 use measures::words::BLOCKS;
-use store::opening::{Opening, open_part};
+use store::Damaged;
+use store::opening::open_part;
 
 #[derive(Clone, Copy)]
-pub enum Numbers {
-    Said { pixels: u32, blocks: u32 },
-    Damaged,
+pub struct Numbers {
+    pub pixels: u32,
+    pub blocks: u32,
 }
 
 // The root carries the number of pixels, and a word says that of the blocks.
-pub fn read_numbers(store: &[u32], sizes: Sizes) -> Numbers
-    requires { UsableStore store.now × (sizes ≡ sizes_of store.now) }
-    ensures { NumbersAnswer store.now result }
+pub fn read_numbers(register: &Register) -> Result<Numbers, Damaged>
+    ensures { NumbersAnswer register.now.words.now result }
 {
-    let layout = layout_of(sizes);
-    let root = slot_part(store, layout, 0);
-    let Opening::Elements(_) = open_part(root, sizes.order, 0) else {
-        return Numbers::Damaged;
-    };
+    let sizes = register.sizes;
+    let slots = register.slots();
+    let root = slots.part(0);
+    open_part(root, sizes.order, 0)?;
     let pixels = root[NUMBER];
     if sizes.most < pixels {
-        return Numbers::Damaged;
+        return Err(Damaged);
     }
-    let blocks = store[BLOCKS];
+    let blocks = register.words[BLOCKS];
+    let layout = slots.layout;
     if layout.slots < wide(blocks) {
-        return Numbers::Damaged;
+        return Err(Damaged);
     }
-    Numbers::Said { pixels, blocks }
+    Ok(Numbers { pixels, blocks })
 }

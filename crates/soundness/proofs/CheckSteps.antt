@@ -10,32 +10,39 @@ use Rattle.measures.specs.declared.sizes.Sizes.{Sizes}
 use Rattle.measures.specs.Decides.{Decides}
 use Rattle.measures.specs.Sizes.{sizes_of, UsableStore}
 use Rattle.measures.specs.Layout.{layout_of, LaidOut}
-use Rattle.inspection.specs.declared.chain.Chain.{Chain}
-use Rattle.inspection.specs.declared.chain.Chain.TheVariants.{Ends, Broken}
 use Rattle.inspection.specs.Chain.{ChainEnds, NoEnd, ChainMeets}
 use Rattle.traversal.specs.declared.Seen.{Seen}
-use Rattle.traversal.specs.declared.Walked.{Walked}
-use Rattle.traversal.specs.declared.Walked.TheVariants.{Whole, Unsound}
-use Rattle.traversal.specs.Walk.{NoneClaimed, BlockWalked, WalkMeets}
+use Rattle.std.specs.Prelude.{Result, Ok}
+use Rattle.store.specs.declared.Damaged.{Damaged}
+use Rattle.store.specs.Opening.{damaged}
+use Rattle.traversal.specs.Walk.{unsound, NoneClaimed, BlockWalked, WalkMeets}
 use Rattle.soundness.proofs.RootWalks.{limits_of, root_claim, none_seen, root_limits, of_words, slots_of_words}
 use Rattle.soundness.proofs.CheckAnswers.{root_stands, chain_stands, numbers_agree, decided_by_counts}
 use Rattle.store.specs.Sound.{IsSound}
 
-module _ {words : List ℕ} {sizes : Sizes} {layout : Layout} (usable : UsableStore words) (said : sizes ≡ sizes_of words) (laid : LaidOut sizes layout) where
-  pub root_unsound : {r : Walked} → r ≡ Unsound → WalkMeets (limits_of layout sizes) words (root_claim sizes) none_seen r → IsSound words → ⊥
+none_counted : {blocks pixels : ℕ} → blocks ≡ 0 → pixels ≡ 0 → ◌≡◌ {A = Seen} (record { blocks = blocks; pixels = pixels }) none_seen
+none_counted b p = cc
+
+-- the words as they are lent to the walk and the chain, and the numbers that the walk begins with
+module _ {words lent : List ℕ} {sizes : Sizes} {layout : Layout} {none : Seen} (usable : UsableStore words) (said : sizes ≡ sizes_of words) (laid : LaidOut sizes layout)
+    (same : lent ≡ words) (zero : (none.blocks ≡ 0) × (none.pixels ≡ 0)) where
+  begins : none ≡ none_seen
+  begins = none_counted zero.0 zero.1
+
+  pub root_unsound : {r : Result Seen Damaged} → r ≡ unsound → WalkMeets (limits_of layout sizes) lent (root_claim sizes) none r → IsSound words → ⊥
   root_unsound is walk =
-      root_stands words (of_words words (λ (l : Layout) (s : Sizes). NoneClaimed (limits_of l s) words (root_claim s) none_seen) said laid (rw is at walk))
+      root_stands words (of_words words (λ (l : Layout) (s : Sizes). NoneClaimed (limits_of l s) words (root_claim s) none_seen) said laid (rw (same, begins) at (rw is at walk)))
 
-  pub chain_broken : {o : Chain} → o ≡ Broken → ChainMeets layout words o → IsSound words → ⊥
-  chain_broken is chain = chain_stands words (of_words words (λ (l : Layout) (s : Sizes). NoEnd l words) said laid (rw is at chain))
+  pub chain_broken : {o : Result ℕ Damaged} → o ≡ damaged → ChainMeets layout lent o → IsSound words → ⊥
+  chain_broken is chain = chain_stands words (of_words words (λ (l : Layout) (s : Sizes). NoEnd l words) said laid (rw same at (rw is at chain)))
 
-  module _ {r : Walked} {seen : Seen} {o : Chain} {free blocks : ℕ} (whole : r ≡ Whole seen) (walk : WalkMeets (limits_of layout sizes) words (root_claim sizes) none_seen r)
-      (ends : o ≡ Ends free) (chain : ChainMeets layout words o) (same : blocks ≡ seen.blocks) where
+  module _ {r : Result Seen Damaged} {seen : Seen} {o : Result ℕ Damaged} {free blocks : ℕ} (whole : r ≡ Ok seen) (walk : WalkMeets (limits_of layout sizes) lent (root_claim sizes) none r)
+      (ends : o ≡ Ok free) (chain : ChainMeets layout lent o) (wide : blocks ≡ seen.blocks) where
     walked : BlockWalked (limits_of layout sizes) words (root_claim sizes) none_seen seen
-    walked = rw whole at walk
+    walked = rw (same, begins) at (rw whole at walk)
 
     followed : ChainEnds layout words free
-    followed = rw ends at chain
+    followed = rw same at (rw ends at chain)
 
     pub sum_fits : blocks + free < 18446744073709551616
     sum_fits = omega (arith, walked.within.blocks_to, followed.few, laid.within.slots_to)

@@ -13,22 +13,21 @@ use Rattle.measures.specs.declared.sizes.Layout.{Layout}
 use Rattle.measures.specs.declared.sizes.Sizes.{Sizes}
 use Rattle.measures.specs.Sizes.{sizes_of, slot_count, UsableStore}
 use Rattle.measures.specs.Layout.{layout_of, LaidOut}
-use Rattle.measures.proofs.Usable.{sizes_valid, layout_said, layout_fits}
+use Rattle.measures.proofs.Usable.{sizes_valid, layout_said}
 use Rattle.store.specs.Placed.{Placed}
 use Rattle.store.specs.Sound.{Sound}
 use Rattle.store.proofs.SoundView.{sound_view}
 use Rattle.store.proofs.BlockView.{root_view}
 use Rattle.traversal.specs.declared.Claim.{Claim}
-use Rattle.traversal.specs.declared.Limits.{Limits}
 use Rattle.traversal.specs.declared.Seen.{Seen}
-use Rattle.traversal.specs.Walk.{CanWalk, WithinLimits, seen_with, claimed, BlockAt}
+use Rattle.traversal.specs.Walk.{Limits, CanWalk, WithinLimits, seen_with, claimed, BlockAt}
 
 -- as the code makes them
 abbrev pub limits_of : Layout → Sizes → Limits
 limits_of layout sizes = record { layout = layout; k = sizes.k; most = sizes.most }
 
 abbrev pub root_claim : Sizes → Claim
-root_claim sizes = record { slot = 0; level = sizes.order; code = 0; least = 0 }
+root_claim sizes = record { block = record { slot = 0; level = sizes.order; code = 0 }; least = 0 }
 
 abbrev pub none_seen : Seen
 none_seen = record { blocks = 0; pixels = 0 }
@@ -37,16 +36,10 @@ abbrev pub root_limits : List ℕ → Limits
 root_limits words = limits_of (layout_of (sizes_of words)) (sizes_of words)
 
 pub can_start : {words : List ℕ} {sizes : Sizes} {layout : Layout} → UsableStore words → sizes ≡ sizes_of words → LaidOut sizes layout
-    → CanWalk (limits_of layout sizes) words (root_claim sizes) none_seen
+    → CanWalk (limits_of layout sizes) (root_claim sizes) none_seen
 can_start usable said laid =
     let valid = sizes_valid usable said in
     record {
-      can = record {
-        fits = layout_fits _ _ _ usable said laid;
-        k_from = omega (arith, valid.panel.k_from);
-        k_to = valid.panel.k_to;
-        most_to = valid.most_to;
-      };
       slot_below = laid.within.slots_from;
       level_from = valid.panel.order_from;
       level_to = valid.panel.order_to;

@@ -11,7 +11,7 @@ use Rattle.pktree.proofs.Alignment.{block_code}
 use Rattle.measures.specs.Slot.{slot_part}
 use Rattle.measures.specs.Layout.{LayoutFits}
 use Rattle.store.specs.Placed.{Placed, slots_of}
-use Rattle.freeslots.specs.declared.FreeSlot.TheVariants.{Missing}
+use Rattle.std.proofs.Common.{None}
 use Rattle.freeslots.specs.FreeSlots.{occurrences, TookFree}
 use Rattle.store.proofs.Standing.{every_right}
 use Rattle.measures.proofs.SlotWrites.{HeadWritten}
@@ -34,7 +34,7 @@ use Rattle.step.proofs.Formed.{formed_as, formed_pixels, one_block_more, slots_a
 module _ {σ : Setting} {words : List ℕ} {way : List Frame} {s level code : ℕ} {es : Placed} {free : List ℕ} (h : Laid σ words way s level code es free)
     {j first n : ℕ} (g : FormedAt σ.k level code σ.x j first n es) where
   pub never_without_slot : {after : List ℕ} → (level ≡ σ.m) ⊎ (σ.k ≤ size (formed_as g 0))
-      → TookFree σ.layout words after Missing → ⊥
+      → TookFree σ.layout words after None → ⊥
   never_without_slot {after} enough missing =
       let o = h.around in
       slot_for_block o (g.right 0) enough (one_block_more g 0) (formed_pixels g 0)

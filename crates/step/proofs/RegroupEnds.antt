@@ -1,6 +1,7 @@
 -- The two ends of `regroup`: a block is formed and the change is at rest, or the rest is handed up.
 use Prim.Native.Nat.{ℕ, ◌+◌, ◌≤◌, ◌<◌}
 use native.Mathlib.Omega.{arith}
+use Rattle.std.specs.Prelude.{Some, Ok, Err}
 use mathlib.Core.Path.{◌≡◌, refl, ap, subst, sym, ◌∙◌}
 use mathlib.Core.Logic.{◌⊎◌, inl, inr}
 use mathlib.Core.List.{List, [], ◌∷◌}
@@ -17,9 +18,7 @@ use Rattle.measures.specs.Slot.{OnlySlot}
 use Rattle.store.specs.Placed.{Placed}
 use Rattle.measures.proofs.SlotWrites.{take_less}
 use Rattle.descent.specs.Way.{Frame}
-use Rattle.rewrite.specs.declared.Forming.TheVariants.{NoSlot}
 use Rattle.rewrite.specs.Rewrite.{HandedUpBlock, BlockFormed, FormMeets}
-use Rattle.step.specs.declared.Stepped.TheVariants.{Up}
 use Rattle.ascent.proofs.Frames.{FramesRight}
 use Rattle.ascent.proofs.FormedAt.{FormedAt}
 use Rattle.ascent.proofs.Pending.{Setting, Laid}
@@ -46,14 +45,14 @@ front_kept v w before after e =
 module _ {σ : Setting} {layout : Layout} {before : List ℕ} {way : List Frame} {slot outer code : ℕ} {es : Placed} {free : List ℕ} {j first n d : ℕ}
     (layout_is : layout ≡ σ.layout) (d_is : d ≡ block_code j σ.x) (h : Laid σ before way slot outer code es free) (g : FormedAt σ.k outer code σ.x j first n es) where
   pub regrouped_up : {after scratch scratch' : List ℕ} {r : ℕ} → (way ≡ [] → ⊥) → slot < tag_slots → r < σ.k → HandedUpBlock layout slot j d first n before after scratch scratch' r
-      → SteppedRight σ after scratch' way slot (Up r)
+      → SteppedRight σ after scratch' way slot (Ok (Some r))
   regrouped_up {after} {scratch} {scratch'} {r} some small few u = go way refl h
     where
       u' : HandedUpBlock σ.layout slot j (block_code j σ.x) first n before after scratch scratch' r
       u' = subst (λ (c : ℕ). HandedUpBlock σ.layout slot j c first n before after scratch scratch' r) d_is
           (subst (λ (l : Layout). HandedUpBlock l slot j d first n before after scratch scratch' r) layout_is u)
 
-      go : (w : List Frame) → way ≡ w → Laid σ before w slot outer code es free → SteppedRight σ after scratch' w slot (Up r)
+      go : (w : List Frame) → way ≡ w → Laid σ before w slot outer code es free → SteppedRight σ after scratch' w slot (Ok (Some r))
       go [] e l = absurd (some e)
       go (f ∷ w) e l = up_with_block l g small (omega (arith, u'.rest_is, l.says.count_is)) u'
 
@@ -76,5 +75,5 @@ module _ {σ : Setting} {layout : Layout} {before : List ℕ} {way : List Frame}
         (subst (λ (c : ℕ). BlockFormed σ.layout slot j c first n (first_free_word before) before after) d_is
         (subst (λ (l : Layout). BlockFormed l slot j d first n (first_free_word before) before after) layout_is u))
 
-    pub never_without : {after : List ℕ} → FormMeets layout slot j d first n before after NoSlot → ⊥
-    never_without {after} u = never_without_slot h g (enough_left 0) (subst (λ (l : Layout). FormMeets l slot j d first n before after NoSlot) layout_is u)
+    pub never_without : {after : List ℕ} → FormMeets layout slot j d first n before after (Err (record {})) → ⊥
+    never_without {after} u = never_without_slot h g (enough_left 0) (subst (λ (l : Layout). FormMeets l slot j d first n before after (Err (record {}))) layout_is u)

@@ -1,5 +1,6 @@
 -- How a step of a change ends: after the splice the elements lie in the slot, and they are right, or a run of them is to be a block.
 use Prim.Native.Nat.{ℕ, zero, suc, ◌≤◌, ◌<◌}
+use Rattle.std.specs.Prelude.{Option, Some, None, Ok, Err}
 use native.Mathlib.Omega.{arith}
 use mathlib.Core.Path.{◌≡◌, refl, ap, subst, sym, ◌∙◌}
 use mathlib.Core.Logic.{◌⊎◌, inl, inr}
@@ -18,19 +19,16 @@ use Rattle.store.specs.Placed.{Placed}
 use Rattle.measures.proofs.Usable.{slot_long}
 use Rattle.descent.specs.Way.{Frame}
 use Rattle.runs.specs.declared.RunFound.{RunFound}
-use Rattle.runs.specs.declared.RunFound.TheVariants.{Formed, Nothing}
+use Rattle.std.specs.Prelude.{Option, Some, None}
 use Rattle.runs.specs.Run.{ElementsLaid, RunFormed, RunMeets, AscendingCodes}
 use Rattle.runs.proofs.SlotCodes.{slot_ascends}
 use Rattle.rewrite.specs.Rewrite.{CanHandUp, HandedUpAll}
 use Rattle.step.specs.declared.Change.{Change}
-use Rattle.step.specs.declared.Placing.TheVariants as placing
-use Rattle.step.specs.declared.Stepped.{Stepped}
-use Rattle.step.specs.declared.Stepped.TheVariants.{Done, Up, Damaged}
 use Rattle.ascent.proofs.Frames.{FramesRight, frames_level}
 use Rattle.ascent.proofs.Pending.{Setting, width_in, Laid}
 use Rattle.ascent.proofs.FormedAt.{FormedAt}
 use Rattle.ascent.proofs.Completed.{Completed}
-use Rattle.step.specs.Step.{most_handed_up, Kept, CanPut, PutMeets, InSetting, SteppedRight, FewHandedUp, CanRegroup, RegroupMeets, UnderfullMeets, StepMeets}
+use Rattle.step.specs.Step.{most_handed_up, Kept, CanPut, PutMeets, InSetting, Stepped, SteppedRight, FewHandedUp, CanRegroup, RegroupMeets, UnderfullMeets, StepMeets}
 use Rattle.ascent.proofs.RunLaw.{formed_by}
 use Rattle.step.proofs.RegroupEnds.{kept_same, kept_but_slot, front_kept}
 use Rattle.step.proofs.Laid.{can_splice, laid_by_splice, right_as_it_is, done_as_it_is}
@@ -49,7 +47,7 @@ kept_then p q = record { long = q.long ∙ p.long; head = q.head ∙ p.head; pas
 
 -- the elements were spliced
 module _ {layout : Layout} {slot place removed inserted count : ℕ} {before mid scratch : List ℕ} (can : CanPut layout before slot place removed inserted scratch)
-    (r : PutMeets layout slot place removed inserted scratch before mid (placing.Elements count)) where
+    (r : PutMeets layout slot place removed inserted scratch before mid (Ok count)) where
   fits_then : LayoutFits layout mid
   fits_then = record { within = can.fits.within; lies = rw r.2.only.long can.fits.lies }
 
@@ -83,7 +81,7 @@ module _ {layout : Layout} {slot place removed inserted count : ℕ} {before mid
 
 -- and a run that was found in it can be made a block
 pub can_regroup : {change : Change} {slot place removed inserted count level x j first n : ℕ} {before mid scratch part : List ℕ}
-    → CanPut change.layout before slot place removed inserted scratch → PutMeets change.layout slot place removed inserted scratch before mid (placing.Elements count)
+    → CanPut change.layout before slot place removed inserted scratch → PutMeets change.layout slot place removed inserted scratch before mid (Ok count)
     → level ≤ 16 → 2 ≤ change.k → change.k ≤ 16 → RunFormed part count level change.k x j first n → CanRegroup change mid slot j first n scratch
 can_regroup can put low k_from k_to run = record {
   fits = fits_then can put;
@@ -97,7 +95,7 @@ can_regroup can put low k_from k_to run = record {
 }
 
 -- what was found, by other names of the same
-found_in : {part part' : List ℕ} {count count' level level' k k' x x' : ℕ} (r : RunFound) → part ≡ part' → count ≡ count' → level ≡ level' → k ≡ k' → x ≡ x'
+found_in : {part part' : List ℕ} {count count' level level' k k' x x' : ℕ} (r : Option RunFound) → part ≡ part' → count ≡ count' → level ≡ level' → k ≡ k' → x ≡ x'
     → RunMeets part count level k x r → RunMeets part' count' level' k' x' r
 found_in r p c l k x h = rw (p, c, l, k, x) at h
 
@@ -136,14 +134,14 @@ enough code i f (inr h) = inr (omega (arith, i.k_is))
 -- below the root an underfull block hands all up
 up_below_root : {σ : Setting} {words : List ℕ} (way : List Frame) {s level code : ℕ} {es : Placed} {free after scratch scratch' : List ℕ} {n : ℕ} → (way ≡ [] → ⊥)
     → LayoutFits σ.layout words → Laid σ words way s level code es free → LocallyRight σ.k level code es → size es < σ.k
-    → HandedUpAll σ.layout s words after scratch scratch' n → SteppedRight σ after scratch' way s (Up n)
+    → HandedUpAll σ.layout s words after scratch scratch' n → SteppedRight σ after scratch' way s (Ok (Some n))
 up_below_root [] ne fits h right few u = ne refl
 up_below_root (f ∷ way) ne fits h right few u = up_with_all h fits right few u
 
 -- on a register's words the splice is never refused
 pub never_refused : {change : Change} {root : Bool} {slot place removed inserted : ℕ} {before after scratch : List ℕ} → CanPut change.layout before slot place removed inserted scratch
-    → PutMeets change.layout slot place removed inserted scratch before after placing.Damaged
-    → StepMeets change root slot place removed inserted before after scratch scratch Damaged
+    → PutMeets change.layout slot place removed inserted scratch before after (Err (record {}))
+    → StepMeets change root slot place removed inserted before after scratch scratch (Err (record {}))
 never_refused {change} {root} {slot} {place} {removed} {inserted} {before} {after} {scratch} can r =
     record {
       kept = record { long = ap length r.0; head = ap (take 6) r.0; past = ap (drop (store_end change.layout)) r.0 };
@@ -157,7 +155,7 @@ never_refused {change} {root} {slot} {place} {removed} {inserted} {before} {afte
 
 module _ {change : Change} {root : Bool} {slot place removed inserted count : ℕ} {before mid scratch : List ℕ}
     (can : CanPut change.layout before slot place removed inserted scratch)
-    (put : PutMeets change.layout slot place removed inserted scratch before mid (placing.Elements count)) where
+    (put : PutMeets change.layout slot place removed inserted scratch before mid (Ok count)) where
   -- what follows from the elements laid, right where nothing came, is what the step comes to
   stepped : {after scratch' : List ℕ} {r : Stepped} → Kept change.layout mid after → FewHandedUp r → length scratch' ≡ length scratch
       → ((σ : Setting) (way : List Frame) (level code : ℕ) (es : Placed) (free : List ℕ) → InSetting σ change root way → Laid σ mid way slot level code es free
@@ -168,7 +166,7 @@ module _ {change : Change} {root : Bool} {slot place removed inserted count : �
     bounds = bounds;
     scratch_long = long;
     right = λ σ way level code a old new b free i p o n w h.
-        let done = subst (λ (l : Layout). PutMeets l slot place removed inserted scratch before mid (placing.Elements count)) i.layout_is put in
+        let done = subst (λ (l : Layout). PutMeets l slot place removed inserted scratch before mid (Ok count)) i.layout_is put in
         right σ way level code (a ⧺ (new ⧺ b)) free i
         (laid_by_splice h p o n w done.1 done.2) (λ none. h.right_if_none_inserted (n ∙ none));
   }
@@ -176,46 +174,45 @@ module _ {change : Change} {root : Bool} {slot place removed inserted count : �
   -- where the elements laid are right, the change is at rest, or the underfull block is deinstantiated
   module _ (right-then : (σ : Setting) (way : List Frame) (level code : ℕ) (es : Placed) (free : List ℕ) → InSetting σ change root way → Laid σ mid way slot level code es free
       → (inserted ≡ 0 → LocallyRight σ.k level code es) → LocallyRight σ.k level code es) where
-    at_rest_or_deinstantiated : {after scratch' : List ℕ} (r : Stepped) → change.k ≤ 16 → UnderfullMeets change root slot count mid after scratch scratch' r
-        → StepMeets change root slot place removed inserted before after scratch scratch' r
-    at_rest_or_deinstantiated Done k_to (e, same, scratch-same) = stepped (kept_same change.layout mid _ same) tt (ap length scratch-same)
+    at_rest_or_deinstantiated : {after scratch' : List ℕ} (r : Option ℕ) → change.k ≤ 16 → UnderfullMeets change root slot count mid after scratch scratch' r
+        → StepMeets change root slot place removed inserted before after scratch scratch' (Ok r)
+    at_rest_or_deinstantiated None k_to (e, same, scratch-same) = stepped (kept_same change.layout mid _ same) tt (ap length scratch-same)
         (λ σ way level code es free i h s. subst (Completed σ) (sym same) (done_as_it_is h (right-then σ way level code es free i h s)
         (enough code i h.around.frames_right
         (subst (λ (n : ℕ). (root ≡ true) ⊎ (change.k ≤ n)) (sym (count_then can put) ∙ count_says i h) e))))
-    at_rest_or_deinstantiated {after} {scratch'} (Up n) k_to (e, few, u) =
+    at_rest_or_deinstantiated {after} {scratch'} (Some n) k_to (e, few, u) =
         stepped (kept_by_release can.slot_below u.freed) (omega (arith, u.rest_is, count_then can put)) u.long
         (λ σ way level code es free i h s. up_below_root way (i.root_is.1 e) (subst (λ (l : Layout). LayoutFits l mid) i.layout_is (fits_then can put)) h (right-then σ way level code es free i h s)
         (omega (arith, count_then can put, count_says i h, i.k_is)) (subst (λ (l : Layout). HandedUpAll l slot mid after scratch scratch' n) i.layout_is u))
-    at_rest_or_deinstantiated Damaged k_to bad = absurd bad
 
   -- where nothing came, the elements are right
-  pub at_rest_or_deinstantiated_none_inserted : {after scratch' : List ℕ} {r : Stepped} → inserted ≡ 0 → change.k ≤ 16 → UnderfullMeets change root slot count mid after scratch scratch' r
-      → StepMeets change root slot place removed inserted before after scratch scratch' r
+  pub at_rest_or_deinstantiated_none_inserted : {after scratch' : List ℕ} {r : Option ℕ} → inserted ≡ 0 → change.k ≤ 16 → UnderfullMeets change root slot count mid after scratch scratch' r
+      → StepMeets change root slot place removed inserted before after scratch scratch' (Ok r)
   at_rest_or_deinstantiated_none_inserted {r = r} none = at_rest_or_deinstantiated (λ σ way level code es free i h s. s none) r
 
   module _ {part : List ℕ} (lent : part ≡ slot_part change.layout.width mid slot) where
     -- nor does a slot say a level above 16
-    pub never_too_high : 16 < get_or part 0 0 → StepMeets change root slot place removed inserted before mid scratch scratch Damaged
+    pub never_too_high : 16 < get_or part 0 0 → StepMeets change root slot place removed inserted before mid scratch scratch (Err (record {}))
     never_too_high h = stepped (kept_same change.layout mid mid refl) tt refl (λ σ way level code es free i l s. omega (arith, ap level_word lent, level_up_to i l))
 
     -- what the search found, in each setting
-    found : {σ : Setting} {way : List Frame} {level code : ℕ} {es : Placed} {free : List ℕ} (r : RunFound) → InSetting σ change root way → Laid σ mid way slot level code es free
+    found : {σ : Setting} {way : List Frame} {level code : ℕ} {es : Placed} {free : List ℕ} (r : Option RunFound) → InSetting σ change root way → Laid σ mid way slot level code es free
         → RunMeets part count (get_or part 0 0) change.k change.code r
         → RunMeets (slot_part (width_in σ) mid slot) (size es) level σ.k σ.x r
     found r i h =
         found_in r (lent ∙ same_part i h) (sym (count_then can put) ∙ count_says i h) (ap level_word lent ∙ level_says i h) i.k_is i.x_is
 
     -- no run: they are right too
-    pub at_rest_or_deinstantiated_no_run : {after scratch' : List ℕ} {r : Stepped} → RunMeets part count (get_or part 0 0) change.k change.code Nothing → change.k ≤ 16
-        → UnderfullMeets change root slot count mid after scratch scratch' r → StepMeets change root slot place removed inserted before after scratch scratch' r
+    pub at_rest_or_deinstantiated_no_run : {after scratch' : List ℕ} {r : Option ℕ} → RunMeets part count (get_or part 0 0) change.k change.code None → change.k ≤ 16
+        → UnderfullMeets change root slot count mid after scratch scratch' r → StepMeets change root slot place removed inserted before after scratch scratch' (Ok r)
     at_rest_or_deinstantiated_no_run {r = r} none =
-        at_rest_or_deinstantiated (λ σ way level code es free i h s. right_as_it_is h (found Nothing i h none (ascends i h))) r
+        at_rest_or_deinstantiated (λ σ way level code es free i h s. right_as_it_is h (found None i h none (ascends i h))) r
 
     -- a run: regrouping goes on with it
-    pub formed_then : {after scratch' : List ℕ} {j first n : ℕ} {r : Stepped}
-        → RunMeets part count (get_or part 0 0) change.k change.code (Formed j first n)
-        → RegroupMeets change root slot j first n mid after scratch scratch' r → StepMeets change root slot place removed inserted before after scratch scratch' r
-    formed_then {j = j} {first = first} {n = n} run u =
+    pub formed_then : {after scratch' : List ℕ} {run : RunFound} {r : Stepped}
+        → RunMeets part count (get_or part 0 0) change.k change.code (Some run)
+        → RegroupMeets change root slot run.level run.first run.length mid after scratch scratch' r → StepMeets change root slot place removed inserted before after scratch scratch' r
+    formed_then {run = run} met u =
         stepped u.kept u.bounds u.scratch_long
         (λ σ way level code es free i h s. u.right σ way level code es free i h
-        (run_formed level h (ascends i h) (found (Formed j first n) i h run)))
+        (run_formed level h (ascends i h) (found (Some run) i h met)))

@@ -1,19 +1,16 @@
 -- What a change does to one block of the path. On any words it stays in bounds; on those of a register it comes to rest, or is pending one block up.
-use Rattle.std.specs.Prelude.{ℕ, ◌+◌, ◌-◌, ◌*◌, ◌≤◌, ◌<◌, ◌≡◌, Bool, true, false, ◌⊎◌, List, [], ◌∷◌, length, take, drop}
+use Rattle.std.specs.Prelude.{ℕ, ◌+◌, ◌-◌, ◌*◌, ◌≤◌, ◌<◌, ◌≡◌, Bool, true, false, ◌⊎◌, List, [], ◌∷◌, length, take, drop, Option, Some, None, Result, Ok, Err}
 use Rattle.pktree.specs.Elements.{size, block_at, empty}
 use Rattle.measures.specs.declared.sizes.Layout.{Layout}
 use Rattle.measures.specs.Layout.{LayoutFits, store_end, most_elements}
 use Rattle.measures.specs.Slot.{slot_part, count_word, element_index}
 use Rattle.elements.specs.Splice.{CanSplice}
+use Rattle.store.specs.declared.Damaged.{Damaged}
 use Rattle.store.specs.Placed.{Placed}
 use Rattle.store.proofs.Standing.{element_words}
 use Rattle.descent.specs.Way.{Frame}
 use Rattle.rewrite.specs.Rewrite.{SplicedSlot, HandedUpAll, scratch_words}
 use Rattle.step.specs.declared.Change.{Change}
-use Rattle.step.specs.declared.Placing.{Placing}
-use Rattle.step.specs.declared.Placing.TheVariants as placing
-use Rattle.step.specs.declared.Stepped.{Stepped}
-use Rattle.step.specs.declared.Stepped.TheVariants.{Done, Up, Damaged}
 use Rattle.ascent.proofs.Pending.{Setting, Pending, Laid}
 use Rattle.ascent.proofs.FormedAt.{FormedAt}
 use Rattle.ascent.proofs.Completed.{Completed}
@@ -38,11 +35,11 @@ pub record CanPut (layout : Layout) (words : List ℕ) (slot place removed inser
   pub room : length scratch ≡ scratch_words
 
 -- the elements are spliced, so many there are then; or they cannot be
-abbrev pub PutMeets : Layout → ℕ → ℕ → ℕ → ℕ → List ℕ → List ℕ → List ℕ → Placing → Type 0
-PutMeets layout slot place removed inserted scratch before after (placing.Elements n) =
+abbrev pub PutMeets : Layout → ℕ → ℕ → ℕ → ℕ → List ℕ → List ℕ → List ℕ → Result ℕ Damaged → Type 0
+PutMeets layout slot place removed inserted scratch before after (Ok n) =
     (n ≡ count_word (slot_part layout.width before slot) - removed + inserted) × CanSplice (slot_part layout.width before slot) scratch place removed inserted
     × SplicedSlot layout.width slot place removed inserted scratch before after
-PutMeets layout slot place removed inserted scratch before after placing.Damaged =
+PutMeets layout slot place removed inserted scratch before after (Err _) =
     (after ≡ before) × (CanSplice (slot_part layout.width before slot) scratch place removed inserted → ⊥)
 
 -- the change is one in this setting
@@ -62,16 +59,20 @@ pub record PendingAbove (σ : Setting) (words scratch : List ℕ) (f : Frame) (w
   pub count_is : size left ≡ n
   pub scratch_is : take (2 * n) scratch ≡ element_words left
 
+-- how a step ends: the change is at rest, so many elements go up, or the words are damaged
+abbrev pub Stepped : Type 0
+Stepped = Result (Option ℕ) Damaged
+
 abbrev pub SteppedRight : Setting → List ℕ → List ℕ → List Frame → ℕ → Stepped → Type 0
-SteppedRight σ words scratch way slot Done = Completed σ words
-SteppedRight σ words scratch [] slot (Up n) = ⊥
-SteppedRight σ words scratch (f ∷ way) slot (Up n) = PendingAbove σ words scratch f way slot n
-SteppedRight σ words scratch way slot Damaged = ⊥
+SteppedRight σ words scratch way slot (Ok None) = Completed σ words
+SteppedRight σ words scratch [] slot (Ok (Some n)) = ⊥
+SteppedRight σ words scratch (f ∷ way) slot (Ok (Some n)) = PendingAbove σ words scratch f way slot n
+SteppedRight σ words scratch way slot (Err _) = ⊥
 
 abbrev pub FewHandedUp : Stepped → Type 0
-FewHandedUp Done = Unit {0}
-FewHandedUp (Up n) = n ≤ most_handed_up
-FewHandedUp Damaged = Unit {0}
+FewHandedUp (Ok None) = Unit {0}
+FewHandedUp (Ok (Some n)) = n ≤ most_handed_up
+FewHandedUp (Err _) = Unit {0}
 
 pub record CanRegroup (change : Change) (words : List ℕ) (slot level first size : ℕ) (scratch : List ℕ) : Type 0 where
   pub fits : LayoutFits change.layout words
@@ -91,10 +92,9 @@ pub record RegroupMeets (change : Change) (root : Bool) (slot level first size :
       → Laid σ before way slot outer code es free → FormedAt σ.k outer code σ.x level first size es → SteppedRight σ after scratch' way slot r
 
 -- the block is the root or has k elements, and all is as it was; or all its elements go up
-abbrev pub UnderfullMeets : Change → Bool → ℕ → ℕ → List ℕ → List ℕ → List ℕ → List ℕ → Stepped → Type 0
-UnderfullMeets change root slot count before after scratch scratch' Done = ((root ≡ true) ⊎ (change.k ≤ count)) × (after ≡ before) × (scratch' ≡ scratch)
-UnderfullMeets change root slot count before after scratch scratch' (Up n) = (root ≡ false) × (count < change.k) × HandedUpAll change.layout slot before after scratch scratch' n
-UnderfullMeets change root slot count before after scratch scratch' Damaged = ⊥
+abbrev pub UnderfullMeets : Change → Bool → ℕ → ℕ → List ℕ → List ℕ → List ℕ → List ℕ → Option ℕ → Type 0
+UnderfullMeets change root slot count before after scratch scratch' None = ((root ≡ true) ⊎ (change.k ≤ count)) × (after ≡ before) × (scratch' ≡ scratch)
+UnderfullMeets change root slot count before after scratch scratch' (Some n) = (root ≡ false) × (count < change.k) × HandedUpAll change.layout slot before after scratch scratch' n
 
 pub record StepMeets (change : Change) (root : Bool) (slot place removed inserted : ℕ) (before after scratch scratch' : List ℕ) (r : Stepped) : Type 0 where
   pub kept : Kept change.layout before after

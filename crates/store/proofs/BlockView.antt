@@ -13,10 +13,10 @@ use Rattle.pktree.specs.Tree.{pixels}
 use Rattle.pktree.proofs.Alignment.{aligned_root}
 use Rattle.pktree.proofs.Arranged.{Arranged, LocallyRight, arranged_le}
 use Rattle.pktree.proofs.Forests.{size_join}
-use Rattle.elements.specs.declared.Element.TheVariants.{Pixel, Block}
+use Rattle.elements.specs.declared.Element.TheVariants.{Pixel}
 use Rattle.measures.specs.Sizes.{slot_count, slot_width, sizes_of}
 use Rattle.measures.specs.Slot.{slot_part, element_part, element_index, slot_head, number_word}
-use Rattle.elements.specs.Element.{element_of, element_at, tag_slots}
+use Rattle.elements.specs.Element.{element_of, element_at, tag_slots, named}
 use Rattle.store.specs.Placed.{Placed, slots_of}
 use Rattle.store.specs.Numbers.{Numbered}
 use Rattle.store.specs.Sound.{Sound}
@@ -74,7 +74,7 @@ module _ (part : List ℕ) (level code : ℕ) (es a b : Placed) (says : SlotSays
       ∙ ap (λ (t : Placed). get_or (element_words t) (2 * n + j) 0) e ∙ words_after a (pixel c b) j in
       ap₂ element_of (ap (λ (m : ℕ). get_or part m 0) (omega arith) ∙ w 0 (omega arith)) (w 1 (omega arith))
 
-  pub element_block : (s j c : ℕ) (fs : Placed) → es ≡ a ⧺ block_at s j c fs b → s < tag_slots → element_at part (size a) ≡ Block s j c
+  pub element_block : (s j c : ℕ) (fs : Placed) → es ≡ a ⧺ block_at s j c fs b → s < tag_slots → element_at part (size a) ≡ named s j c
   element_block s j c fs e small =
       let n : ℕ = size a in
       let z : size es ≡ n + suc (size b) = ap size e ∙ size_join a (block_at s j c fs b) in
@@ -83,7 +83,7 @@ module _ (part : List ℕ) (level code : ℕ) (es a b : Placed) (says : SlotSays
       ∙ ap (λ (t : Placed). get_or (element_words t) (2 * n + i) 0) e ∙ words_after a (block_at s j c fs b) i in
       let tl : (s + j * tag_slots) / tag_slots ≡ j = omega arith in
       let ts : (s + j * tag_slots) % tag_slots ≡ s = omega arith in
-      ap₂ element_of (ap (λ (m : ℕ). get_or part m 0) (omega arith) ∙ w 0 (omega arith)) (w 1 (omega arith)) ∙ ap₂ (λ (u v : ℕ). Block u v c) ts tl
+      ap₂ element_of (ap (λ (m : ℕ). get_or part m 0) (omega arith) ∙ w 0 (omega arith)) (w 1 (omega arith)) ∙ ap₂ (λ (u v : ℕ). named u v c) ts tl
 
 -- a block in its slot, right inside, within the slots and within 32-bit codes
 pub record BlockView (k width slots : ℕ) (words : List ℕ) (slot level code : ℕ) (es : Placed) : Type 0 where

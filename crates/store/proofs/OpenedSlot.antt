@@ -8,9 +8,9 @@ use Rattle.measures.specs.declared.sizes.Layout.{Layout}
 use Rattle.measures.specs.Layout.{LayoutFits, most_elements}
 use Rattle.measures.specs.Slot.{slot_part, count_word, slot_head}
 use Rattle.measures.proofs.Usable.{part_length}
-use Rattle.store.specs.declared.opening.Opening.{Opening}
-use Rattle.store.specs.declared.opening.Opening.TheVariants.{Elements, Damaged}
-use Rattle.store.specs.Opening.{HeaderSays, CannotOpen, Opened}
+use Rattle.store.specs.declared.Damaged.{Damaged}
+use Rattle.std.specs.Prelude.{Result, Ok, Err}
+use Rattle.store.specs.Opening.{HeaderSays, CannotOpen, Opened, damaged}
 use Rattle.store.specs.Placed.{Placed}
 use Rattle.store.proofs.Standing.{SlotSays}
 use Rattle.store.proofs.BlockView.{BlockView, elements_lie}
@@ -22,12 +22,12 @@ pub record SlotOpened (width : ℕ) (words : List ℕ) (slot level code count : 
 pub record SlotShut (width : ℕ) (words : List ℕ) (slot level code : ℕ) : Type 0 where
   pub shut : CannotOpen width words slot level code
 
-module _ {width : ℕ} {words : List ℕ} {slot level code : ℕ} {part : List ℕ} {o : Opening} (e : part ≡ slot_part width words slot) (said : Opened part level code o) where
-  pub slot_opened : {count : ℕ} → o ≡ Elements count → SlotOpened width words slot level code count
-  slot_opened f = record { header = subst₂ (λ (p : List ℕ) (r : Opening). Opened p level code r) e f said }
+module _ {width : ℕ} {words : List ℕ} {slot level code : ℕ} {part : List ℕ} {o : Result ℕ Damaged} (e : part ≡ slot_part width words slot) (said : Opened part level code o) where
+  pub slot_opened : {count : ℕ} → o ≡ Ok count → SlotOpened width words slot level code count
+  slot_opened f = record { header = subst₂ (λ (p : List ℕ) (r : Result ℕ Damaged). Opened p level code r) e f said }
 
-  pub slot_shut : o ≡ Damaged → SlotShut width words slot level code
-  slot_shut f = record { shut = subst₂ (λ (p : List ℕ) (r : Opening). Opened p level code r) e f said }
+  pub slot_shut : o ≡ damaged → SlotShut width words slot level code
+  slot_shut f = record { shut = subst₂ (λ (p : List ℕ) (r : Result ℕ Damaged). Opened p level code r) e f said }
 
 pub opened_not_shut : {width : ℕ} {words : List ℕ} {slot level code count : ℕ} → SlotOpened width words slot level code count → CannotOpen width words slot level code → ⊥
 opened_not_shut o shut = shut (rw o.header.count_is o.header)

@@ -7,8 +7,8 @@ use Rattle.pktree.specs.Elements.{Forest, ◌⧺◌, size, block_at, empty, pixe
 use Rattle.pktree.proofs.Forests.{join_assoc, join_empty, size_join}
 use Rattle.measures.specs.Slot.{slot_part}
 use Rattle.elements.specs.declared.Element.{Element}
-use Rattle.elements.specs.declared.Element.TheVariants.{Pixel, Block}
-use Rattle.elements.specs.Element.{element_at}
+use Rattle.elements.specs.declared.Element.TheVariants.{Pixel}
+use Rattle.elements.specs.Element.{element_at, named}
 use Rattle.store.specs.Placed.{Placed}
 use Rattle.store.proofs.BlockView.{BlockView, ChildView, element_pixel, element_block, child_view}
 use Rattle.store.proofs.OpenedSlot.{SlotOpened}
@@ -17,7 +17,7 @@ use Rattle.store.proofs.OpenedSlot.{SlotOpened}
 pub data OneElement (k width slots : ℕ) (words : List ℕ) (level code : ℕ) : Element → Placed → Type 0 where
   is_pixel_lem : (c : ℕ) → OneElement k width slots words level code (Pixel c) (pixel c empty)
   is_block : (s i c : ℕ) (fs : Placed) → ChildView k width slots words level code s i c fs
-      → OneElement k width slots words level code (Block s i c) (block_at s i c fs empty)
+      → OneElement k width slots words level code (named s i c) (block_at s i c fs empty)
 
 -- the first i elements are done, and this holds of them
 pub record Passed (Done : Forest → Type 0) (es : Placed) (i : ℕ) : Type 0 where
@@ -68,5 +68,5 @@ module _ {k width slots : ℕ} {words : List ℕ} {slot level code : ℕ} {es : 
           add (Pixel c) (pixel c empty) b refl e (element_pixel (slot_part width words slot) level code es p.past b view.says c e) (is_pixel_lem c)
       go (block_at s j c fs b) e =
           let child = child_view k width slots words slot level code es p.past s j c fs b view e in
-          add (Block s j c) (block_at s j c fs empty) b refl e
+          add (named s j c) (block_at s j c fs empty) b refl e
           (element_block (slot_part width words slot) level code es p.past b view.says s j c fs e child.small) (is_block s j c fs child)

@@ -11,7 +11,7 @@ use Rattle.measures.specs.declared.sizes.Layout.{Layout}
 use Rattle.measures.specs.Layout.{LayoutFits}
 use Rattle.measures.specs.Slot.{slot_part}
 use Rattle.measures.proofs.SlotWrites.{HeadWritten, word_in_front}
-use Rattle.freeslots.specs.declared.FreeSlot.TheVariants.{Taken}
+use Rattle.std.proofs.Common.{Some}
 use Rattle.freeslots.specs.FreeSlots.{FreeSlots, occurrences, TookFree, Released}
 use Rattle.store.specs.Sound.{SlotsShared}
 use Rattle.freeslots.proofs.FreeChains.{free_kept, head_taken, first_taken, chain_released}
@@ -45,7 +45,7 @@ pub record LeftTaken (layout : Layout) (slot : ℕ) (free before after : List �
   pub left : SlotsLeft layout.width layout.slots after rest
   pub written : HeadWritten layout.width (head_taken layout slot before) before after
 
-pub left_taken : {layout : Layout} {slot : ℕ} {free before after : List ℕ} → LayoutFits layout before → TookFree layout before after (Taken slot)
+pub left_taken : {layout : Layout} {slot : ℕ} {free before after : List ℕ} → LayoutFits layout before → TookFree layout before after (Some slot)
     → SlotsLeft layout.width layout.slots before free → LeftTaken layout slot free before after
 left_taken {layout} {slot} {free} {before} {after} fits took left =
     let f = first_taken layout slot free before after fits took left.chain in

@@ -1,7 +1,6 @@
 -- What opening a block's slot finds.
-use Rattle.std.specs.Prelude.{ℕ, ◌≤◌, ◌≡◌, List, length}
-use Rattle.store.specs.declared.opening.Opening.{Opening}
-use Rattle.store.specs.declared.opening.Opening.TheVariants.{Elements, Damaged}
+use Rattle.std.specs.Prelude.{ℕ, ◌≤◌, ◌≡◌, List, length, Result, Ok, Err}
+use Rattle.store.specs.declared.Damaged.{Damaged}
 use Rattle.measures.specs.Sizes.{sizes_of, slot_width}
 use Rattle.measures.specs.Slot.{slot_part, level_word, code_word, count_word, element_index}
 
@@ -20,6 +19,11 @@ CannotOpen width words slot level code = HeaderSays (slot_part width words slot)
 abbrev pub RootCannotOpen : List ℕ → Type 0
 RootCannotOpen words = CannotOpen (slot_width (sizes_of words).k) words 0 (sizes_of words).order 0
 
-abbrev pub Opened : List ℕ → ℕ → ℕ → Opening → Type 0
-Opened part level code (Elements count) = HeaderSays part level code count
-Opened part level code Damaged = HeaderSays part level code (count_word part) → ⊥
+-- the answer that the words are damaged
+abbrev pub damaged : Result ℕ Damaged
+damaged = Err (record {})
+
+-- so many elements, or the words are damaged
+abbrev pub Opened : List ℕ → ℕ → ℕ → Result ℕ Damaged → Type 0
+Opened part level code (Ok count) = HeaderSays part level code count
+Opened part level code (Err _) = HeaderSays part level code (count_word part) → ⊥

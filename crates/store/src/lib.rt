@@ -2,3 +2,7 @@
 #![tactic(auto)]
 
 pub mod opening;
+
+// The words cannot be a register's.
+#[derive(Clone, Copy, Debug, PartialEq, Eq)]
+pub struct Damaged;

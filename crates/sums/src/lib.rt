@@ -36,10 +36,8 @@ pub fn number_of_elements(store: &[u32], layout: Layout, elements: &[u32], count
     ensures { result ≡ number_of_elements layout store.now count elements.now }
 {
     let mut sum = 0u32;
-    let mut i = 0;
-    while i < count {
+    for i in 0..count {
         sum += number_named(store, layout, elements[2 * i + 1]);
-        i += 1;
     }
     sum
 }

@@ -6,26 +6,20 @@ use mathlib.Core.List.{List}
 use lib.ListN.{length}
 use Rattle.pktree.specs.Tree.{pixels}
 use Rattle.elements.specs.declared.Element.{Element}
-use Rattle.store.specs.declared.opening.Opening.{Opening}
-use Rattle.store.specs.declared.opening.Opening.TheVariants.{Elements, Damaged}
+use Rattle.store.specs.declared.Damaged.{Damaged}
+use Rattle.std.specs.Prelude.{Result, Ok}
 use Rattle.store.specs.Opening.{HeaderSays}
-use Rattle.store.proofs.OpenedSlot.{few_elements}
 use Rattle.elements.specs.Element.{element_at}
 use Rattle.store.specs.Placed.{Placed}
 use Rattle.inspection.specs.declared.pass.Pass.{Pass}
-use Rattle.inspection.specs.declared.pass.Passing.{Passing}
-use Rattle.inspection.specs.declared.pass.Passing.TheVariants.{On, Refused}
-use Rattle.inspection.specs.Pass.{first_pass, entry_of, PassMeets}
+use Rattle.inspection.specs.Pass.{entry_of, PassMeets, refuses}
 use Rattle.traversal.specs.declared.Claim.{Claim}
-use Rattle.traversal.specs.declared.Limits.{Limits}
 use Rattle.traversal.specs.declared.Seen.{Seen}
-use Rattle.traversal.specs.declared.Walked.{Walked}
-use Rattle.traversal.specs.declared.Walked.TheVariants.{Whole, Unsound}
-use Rattle.traversal.specs.Walk.{CanWalk, WithinLimits, seen_with, claimed, NoneClaimed, BlockOpened, OpenMeets, BlockWalked, CanWalkElement, ElementWalked, WalkElementMeets}
+use Rattle.traversal.specs.Walk.{Limits, CanWalk, WithinLimits, seen_with, claimed, NoneClaimed, BlockWalked, ElementWalked, WalkElementMeets, unsound}
 use Rattle.traversal.proofs.SeenParts.{seen_block}
-use Rattle.traversal.proofs.WalkedTo.{part_of, WalkedTo, walked_none, walked_one}
+use Rattle.traversal.proofs.WalkedTo.{part_of, WalkedTo, walked_one}
 use Rattle.traversal.proofs.WalkRefusals.{refused, element_unsound, past_end, wrong_number, whole}
-use Rattle.measures.specs.Slot.{element_index, number_index, number_word}
+use Rattle.measures.specs.Slot.{number_word}
 
 -- the block itself is seen
 abbrev pub one_seen : Seen → Seen
@@ -33,8 +27,8 @@ one_seen seen = record { blocks = seen.blocks + 1; pixels = seen.pixels }
 
 -- a block that was opened, in its loop: the first i elements of it are walked
 pub record InBlock (limits : Limits) (words part : List ℕ) (claim : Claim) (seen : Seen) (count i : ℕ) (pass : Pass) (now : Seen) : Type 0 where
-  pub can : CanWalk limits words claim seen
-  pub header : HeaderSays (part_of limits words claim) claim.level claim.code count
+  pub can : CanWalk limits claim seen
+  pub header : HeaderSays (part_of limits words claim) claim.block.level claim.block.code count
   pub many : claim.least ≤ count
   pub part_is : part ≡ part_of limits words claim
   pub at : i ≤ count
@@ -42,68 +36,33 @@ pub record InBlock (limits : Limits) (words part : List ℕ) (claim : Claim) (se
   pub within : WithinLimits limits now
   pub walked : WalkedTo limits words claim (one_seen seen) i pass now
 
-module _ {limits : Limits} {words : List ℕ} {claim : Claim} {seen : Seen} where
-  module _ {o : Opening} (meets : OpenMeets limits words claim seen o) where
-    pub not_opened : o ≡ Damaged → NoneClaimed limits words claim seen
-    not_opened shut = rw shut at meets
-
-    pub block_begins : {part : List ℕ} {count : ℕ} {pass : Pass} → CanWalk limits words claim seen → o ≡ Elements count → part ≡ part_of limits words claim
-        → pass ≡ first_pass (claim.level - 1) claim.code → InBlock limits words part claim seen count 0 pass (one_seen seen)
-    block_begins {count = count} can is part_is begins =
-        let opened : BlockOpened limits words claim seen count = rw is at meets in
-        record {
-          can = can;
-          header = opened.header;
-          many = opened.many;
-          part_is = part_is;
-          at = omega arith;
-          met_few = rw begins (omega (arith, can.can.k_from));
-          within = record { blocks_to = omega (arith, opened.room); pixels_to = can.within.pixels_to };
-          walked = rw begins walked_none;
-        }
-
 module _ {limits : Limits} {words part : List ℕ} {claim : Claim} {seen : Seen} {count i : ℕ} {pass : Pass} {now : Seen}
     (l : InBlock limits words part claim seen count i pass now) where
   -- what there is room for is the same, said of the block or of its elements
   room_inside : (es : Placed) → WithinLimits limits (seen_with seen (claimed claim es)) → WithinLimits limits (seen_with (one_seen seen) es)
   room_inside es = subst (WithinLimits limits) (sym (seen_block seen claim es))
 
-  block_ends : claim.code + 4 ^ suc (claim.level - 1) ≡ claim.code + 4 ^ claim.level
-  block_ends = let e : suc (claim.level - 1) ≡ claim.level = omega (arith, l.can.level_from) in ap (λ (i : ℕ). claim.code + 4 ^ i) e
+  block_ends : claim.block.code + 4 ^ suc (claim.block.level - 1) ≡ claim.block.code + 4 ^ claim.block.level
+  block_ends = let e : suc (claim.block.level - 1) ≡ claim.block.level = omega (arith, l.can.level_from) in ap (λ (i : ℕ). claim.block.code + 4 ^ i) e
 
   module _ (below : i < count) where
-    pub element_there : element_index i + 2 ≤ length part
-    element_there = omega (arith, l.header.laid, ap length l.part_is)
-
-    pub next_fits : i + 1 < 18446744073709551616
-    next_fits = omega (arith, few_elements l.can.can.fits l.can.slot_below l.header)
-
     module _ {element : Element} (is : element ≡ element_at part i) where
       of_slot : element ≡ element_at (part_of limits words claim) i
       of_slot = rw l.part_is at is
 
-      pub refused_at : {p : Passing} → p ≡ Refused → PassMeets limits.k (claim.level - 1) pass (entry_of element) p → NoneClaimed limits words claim seen
-      refused_at refuses passing =
-          record { none = λ es b room. refused l.walked of_slot l.header.count_is below (rw refuses at passing) es b (room_inside es room) }
+      pub refused_at : {p : Result Pass Damaged} → p ≡ refuses → PassMeets limits.k (claim.block.level - 1) pass (entry_of element) p → NoneClaimed limits words claim seen
+      refused_at is passing =
+          record { none = λ es b room. refused l.walked of_slot l.header.count_is below (rw is at passing) es b (room_inside es room) }
 
-      module _ {p : Passing} {next : Pass} (goes_on_lem : p ≡ On next) (passing : PassMeets limits.k (claim.level - 1) pass (entry_of element) p) where
-        passed_on : PassMeets limits.k (claim.level - 1) pass (entry_of element) (On next)
+      module _ {p : Result Pass Damaged} {next : Pass} (goes_on_lem : p ≡ Ok next) (passing : PassMeets limits.k (claim.block.level - 1) pass (entry_of element) p) where
+        passed_on : PassMeets limits.k (claim.block.level - 1) pass (entry_of element) (Ok next)
         passed_on = rw goes_on_lem at passing
 
-        pub element_can : CanWalkElement limits words element claim.level now
-        element_can =
-            record {
-              can = l.can.can;
-              level_to = l.can.level_to;
-              below = omega (arith, passed_on.bounds.1, l.can.level_from);
-              within = l.within;
-            }
+        pub unsound_at : {r : Result Seen Damaged} → r ≡ unsound → WalkElementMeets limits words element now r → NoneClaimed limits words claim seen
+        unsound_at is meets =
+            record { none = λ es b room. element_unsound l.walked of_slot l.header.count_is below (rw is at meets) es b (room_inside es room) }
 
-        pub unsound_at : {r : Walked} → r ≡ Unsound → WalkElementMeets limits words element now r → NoneClaimed limits words claim seen
-        unsound_at unsound meets =
-            record { none = λ es b room. element_unsound l.walked of_slot l.header.count_is below (rw unsound at meets) es b (room_inside es room) }
-
-        pub next_walked : {more : Seen} {r : Walked} → r ≡ Whole more → WalkElementMeets limits words element now r
+        pub next_walked : {more : Seen} {r : Result Seen Damaged} → r ≡ Ok more → WalkElementMeets limits words element now r
             → InBlock limits words part claim seen count (i + 1) next more
         next_walked {more} whole meets =
             let one : ElementWalked limits words element now more = rw whole at meets in
@@ -118,14 +77,8 @@ module _ {limits : Limits} {words part : List ℕ} {claim : Claim} {seen : Seen}
               walked = walked_one of_slot (omega (arith, l.header.laid)) l.walked passed_on one;
             }
 
-  pub number_there : number_index < length part
-  number_there = omega (arith, l.header.laid, ap length l.part_is)
-
   pixels_inside : now.pixels ≡ seen.pixels + length (pixels l.walked.past)
   pixels_inside = ap (λ (s : Seen). s.pixels) l.walked.now_is
-
-  pub pixels_grow : seen.pixels ≤ now.pixels
-  pixels_grow = omega (arith, pixels_inside)
 
   number_of_slot : number_word part ≡ number_word (part_of limits words claim)
   number_of_slot = ap number_word l.part_is
@@ -136,7 +89,7 @@ module _ {limits : Limits} {words part : List ℕ} {claim : Claim} {seen : Seen}
     misnumbered differ =
         record { none = λ es b room. wrong_number l.walked l.header (omega (arith, l.at)) (λ same. differ (omega (arith, number_of_slot, pixels_inside))) es b }
 
-    module _ {end : ℕ} (ends : end ≡ claim.code + 4 ^ claim.level) where
+    module _ {end : ℕ} (ends : end ≡ claim.block.code + 4 ^ claim.block.level) where
       pub too_long : end < pass.from → NoneClaimed limits words claim seen
       too_long far = record { none = λ es b room. past_end l.walked l.header (omega (arith, l.at)) (omega (arith, block_ends)) es b }
 

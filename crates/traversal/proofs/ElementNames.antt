@@ -21,8 +21,8 @@ names_words code (suc tag) t n =
 
 pub names_head : (element : Element) (t : Placed) → Names element t → heads t ≡ entry_of element ∷ []
 names_head (Pixel c) t n = ap (λ (u : Placed). heads u) n
-names_head (Block s i c) t n = ap (λ (u : Placed). heads u) n.1
+names_head (Block block) t n = ap (λ (u : Placed). heads u) n.1
 
 pub names_one : (element : Element) (t : Placed) → Names element t → size t ≡ 1
 names_one (Pixel c) t n = ap (λ (u : Placed). size u) n
-names_one (Block s i c) t n = ap (λ (u : Placed). size u) n.1
+names_one (Block block) t n = ap (λ (u : Placed). size u) n.1

@@ -12,9 +12,8 @@ use Rattle.store.specs.Placed.{Placed, slots_of}
 use Rattle.store.proofs.Standing.{every_left, every_right, every_join}
 use Rattle.store.proofs.PlacedJoin.{slots_join, stands_join, stands_parts}
 use Rattle.store.proofs.BlockNumbers.{tree_numbers_join, tree_numbers_parts}
-use Rattle.traversal.specs.declared.Limits.{Limits}
 use Rattle.traversal.specs.declared.Claim.{Claim}
-use Rattle.traversal.specs.Walk.{StandsRight, BlockAt}
+use Rattle.traversal.specs.Walk.{Limits, StandsRight, BlockAt}
 
 inside_join : {A : Type 0} (k : ℕ) (f g : ForestOf A) → inside_test k (f ⧺ g) ≡ inside_test k f && inside_test k g
 inside_join k empty g = refl
@@ -50,7 +49,7 @@ module _ {limits : Limits} {words : List ℕ} where
 
 -- a block among elements, as an element names it
 abbrev pub child : Limits → ℕ → ℕ → ℕ → Claim
-child limits s i c = record { slot = s; level = i; code = c; least = limits.k }
+child limits s i c = record { block = record { slot = s; level = i; code = c }; least = limits.k }
 
 -- the test of a block inside, by its level
 record InsideBlock (k i c : ℕ) (es : Placed) : Type 0 where

@@ -10,9 +10,8 @@ use Rattle.pktree.specs.Tree.{pixels}
 use Rattle.pktree.proofs.Forests.{block_count_join, pixels_join}
 use Rattle.store.specs.Placed.{Placed}
 use Rattle.traversal.specs.declared.Claim.{Claim}
-use Rattle.traversal.specs.declared.Limits.{Limits}
 use Rattle.traversal.specs.declared.Seen.{Seen}
-use Rattle.traversal.specs.Walk.{WithinLimits, seen_with, claimed}
+use Rattle.traversal.specs.Walk.{Limits, WithinLimits, seen_with, claimed}
 
 seen_as : {a b c d : ℕ} → a ≡ b → c ≡ d → ◌≡◌ {A = Seen} (record { blocks = a; pixels = c }) (record { blocks = b; pixels = d })
 seen_as p q = cc

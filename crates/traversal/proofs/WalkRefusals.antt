@@ -17,12 +17,10 @@ use Rattle.store.specs.Opening.{HeaderSays}
 use Rattle.store.specs.Placed.{Placed}
 use Rattle.store.proofs.BlockView.{element_pixel, element_block}
 use Rattle.inspection.specs.declared.pass.Pass.{Pass}
-use Rattle.inspection.specs.declared.pass.Passing.TheVariants.{Refused}
-use Rattle.inspection.specs.Pass.{entry_of, PassMeets}
+use Rattle.inspection.specs.Pass.{entry_of, PassMeets, refuses}
 use Rattle.traversal.specs.declared.Claim.{Claim}
-use Rattle.traversal.specs.declared.Limits.{Limits}
 use Rattle.traversal.specs.declared.Seen.{Seen}
-use Rattle.traversal.specs.Walk.{WithinLimits, seen_with, StandsRight, BlockAt, Names, NoneNamed}
+use Rattle.traversal.specs.Walk.{Limits, WithinLimits, seen_with, StandsRight, BlockAt, Names, NoneNamed}
 use Rattle.traversal.proofs.ElementNames.{names_head}
 use Rattle.traversal.proofs.OneReading.{Begins, begins}
 use Rattle.traversal.proofs.RightParts.{right_parts}
@@ -44,7 +42,7 @@ module _ {limits : Limits} {words : List ℕ} {claim : Claim} {first : Seen} {i 
 
   begun : (es : Placed) → BlockAt limits words claim es → i ≤ size es → Begins old es
   begun es b h =
-      begins limits.layout.width words claim.slot claim.level claim.code old es b.says b.elements.stands w.right.stands w.names
+      begins limits.layout.width words claim.block.slot claim.block.level claim.block.code old es b.says b.elements.stands w.right.stands w.names
       (omega (arith, w.many))
 
   -- of what is left of a block as claimed, the first is the next element
@@ -67,7 +65,7 @@ module _ {limits : Limits} {words : List ℕ} {claim : Claim} {first : Seen} {i 
         right = g;
         room = subst (WithinLimits limits) s room';
         rest = rest;
-        passes = sym (w.passed _) ∙ ap (slot_test limits.k (claim.level - 1) claim.code) (sym h) ∙ b.passes;
+        passes = sym (w.passed _) ∙ ap (slot_test limits.k (claim.block.level - 1) claim.block.code) (sym h) ∙ b.passes;
       }
 
   next : (es : Placed) → BlockAt limits words claim es → WithinLimits limits (seen_with first es) → i < size es
@@ -87,11 +85,11 @@ module _ {limits : Limits} {words : List ℕ} {claim : Claim} {first : Seen} {i 
 
   -- the ways out of the walk
   pub refused : {element : Element} {count : ℕ} → element ≡ element_at (part_of limits words claim) i → count_word (part_of limits words claim) ≡ count → i < count
-      → PassMeets limits.k (claim.level - 1) pass (entry_of element) Refused → (es : Placed) → BlockAt limits words claim es
+      → PassMeets limits.k (claim.block.level - 1) pass (entry_of element) refuses → (es : Placed) → BlockAt limits words claim es
       → WithinLimits limits (seen_with first es) → ⊥
   refused e n below p es b room =
       let x = next es b room (omega (arith, b.says.count_is)) in
-      let z : ◌≡◌ {A = ℕ} 0 1 = cc (rw e at (p.goes (claim.code + 4 ^ suc (claim.level - 1)) (heads x.rest)), x.passes) in
+      let z : ◌≡◌ {A = ℕ} 0 1 = cc (rw e at (p.goes (claim.block.code + 4 ^ suc (claim.block.level - 1)) (heads x.rest)), x.passes) in
       omega arith
 
   pub element_unsound : {element : Element} {count : ℕ} → element ≡ element_at (part_of limits words claim) i → count_word (part_of limits words claim) ≡ count → i < count
@@ -102,7 +100,7 @@ module _ {limits : Limits} {words : List ℕ} {claim : Claim} {first : Seen} {i 
       p.none x.one (rw e x.names) x.right x.room
 
   -- all elements are read
-  module _ {count : ℕ} (opened : HeaderSays (part_of limits words claim) claim.level claim.code count) (all : i ≡ count) where
+  module _ {count : ℕ} (opened : HeaderSays (part_of limits words claim) claim.block.level claim.block.code count) (all : i ≡ count) where
     -- so a block as claimed has these
     all_read : (es : Placed) → BlockAt limits words claim es → es ≡ old
     all_read es b = go (begun es b (omega (arith, b.says.count_is))).left (begun es b (omega (arith, b.says.count_is))).is
@@ -112,23 +110,23 @@ module _ {limits : Limits} {words : List ℕ} {claim : Claim} {first : Seen} {i 
         go (pixel c rest) e = absurd (omega (arith, w.many, b.says.count_is, opened.count_is, ap size e, size_join old (pixel c rest)))
         go (block_at s j c fs rest) e = absurd (omega (arith, w.many, b.says.count_is, opened.count_is, ap size e, size_join old (block_at s j c fs rest)))
 
-    pub past_end : claim.code + 4 ^ suc (claim.level - 1) < pass.from → (es : Placed) → BlockAt limits words claim es → ⊥
+    pub past_end : claim.block.code + 4 ^ suc (claim.block.level - 1) < pass.from → (es : Placed) → BlockAt limits words claim es → ⊥
     past_end far es b =
         let h : heads es ≡ heads old ++ [] = ap (λ (t : Placed). heads t) (all_read es b) ∙ sym (append-nil _) in
-        let t : left_test limits claim pass [] ≡ true = sym (w.passed []) ∙ ap (slot_test limits.k (claim.level - 1) claim.code) (sym h) ∙ b.passes in
-        omega (arith, leb-true pass.from (claim.code + 4 ^ suc (claim.level - 1)) t)
+        let t : left_test limits claim pass [] ≡ true = sym (w.passed []) ∙ ap (slot_test limits.k (claim.block.level - 1) claim.block.code) (sym h) ∙ b.passes in
+        omega (arith, leb-true pass.from (claim.block.code + 4 ^ suc (claim.block.level - 1)) t)
 
     pub wrong_number : (number_word (part_of limits words claim) ≡ length (pixels old) → ⊥) → (es : Placed) → BlockAt limits words claim es → ⊥
     wrong_number differ es b = differ (b.number ∙ ap (λ (t : Placed). length (pixels t)) (all_read es b))
 
-    pub whole : claim.least ≤ count → pass.from ≤ claim.code + 4 ^ suc (claim.level - 1) → number_word (part_of limits words claim) ≡ length (pixels old)
+    pub whole : claim.least ≤ count → pass.from ≤ claim.block.code + 4 ^ suc (claim.block.level - 1) → number_word (part_of limits words claim) ≡ length (pixels old)
         → BlockAt limits words claim old
     whole enough ends number =
         record {
           says = record { level_is = opened.level_is; code_is = opened.code_is; count_is = omega (arith, opened.count_is, w.many); elements_are = w.names };
           many = omega (arith, w.many);
-          passes = ap (slot_test limits.k (claim.level - 1) claim.code) (sym (append-nil (heads old))) ∙ w.passed []
-              ∙ le-leb pass.from (claim.code + 4 ^ suc (claim.level - 1)) ends;
+          passes = ap (slot_test limits.k (claim.block.level - 1) claim.block.code) (sym (append-nil (heads old))) ∙ w.passed []
+              ∙ le-leb pass.from (claim.block.code + 4 ^ suc (claim.block.level - 1)) ends;
           elements = w.right;
           number = number;
         }

@@ -17,24 +17,23 @@ use Rattle.store.specs.Placed.{Placed}
 use Rattle.store.proofs.Standing.{element_words}
 use Rattle.store.proofs.PlacedJoin.{words_join}
 use Rattle.inspection.specs.declared.pass.Pass.{Pass}
-use Rattle.inspection.specs.declared.pass.Passing.TheVariants.{On}
 use Rattle.inspection.specs.Pass.{first_pass, entry_of, PassMeets}
 use Rattle.traversal.specs.declared.Claim.{Claim}
-use Rattle.traversal.specs.declared.Limits.{Limits}
 use Rattle.traversal.specs.declared.Seen.{Seen}
-use Rattle.traversal.specs.Walk.{seen_with, StandsRight, Names, ElementWalked}
+use Rattle.std.specs.Prelude.{Ok}
+use Rattle.traversal.specs.Walk.{Limits, seen_with, StandsRight, Names, ElementWalked}
 use Rattle.traversal.proofs.ElementNames.{names_words, names_head, names_one}
 use Rattle.traversal.proofs.RightParts.{right_nothing, right_join}
 use Rattle.traversal.proofs.SeenParts.{seen_none, seen_join}
 
 -- the words of the slot that is claimed
 abbrev pub part_of : Limits → List ℕ → Claim → List ℕ
-part_of limits words claim = slot_part limits.layout.width words claim.slot
+part_of limits words claim = slot_part limits.layout.width words claim.block.slot
 
 -- what is left of the pass over the block
 abbrev pub left_test : Limits → Claim → Pass → List Entry → Bool
 left_test limits claim pass rest =
-    pass_test limits.k (claim.level - 1) (claim.code + 4 ^ suc (claim.level - 1)) pass.from pass.quarter pass.met rest
+    pass_test limits.k (claim.block.level - 1) (claim.block.code + 4 ^ suc (claim.block.level - 1)) pass.from pass.quarter pass.met rest
 
 -- the first i elements are read and right, and this is what the pass and the numbers have come to
 pub record WalkedTo (limits : Limits) (words : List ℕ) (claim : Claim) (first : Seen) (i : ℕ) (pass : Pass) (now : Seen) : Type 0 where
@@ -42,7 +41,7 @@ pub record WalkedTo (limits : Limits) (words : List ℕ) (claim : Claim) (first 
   pub many : size past ≡ i
   pub names : take (2 * size past) (element_part (part_of limits words claim)) ≡ element_words past
   pub right : StandsRight limits words past
-  pub passed : (rest : List Entry) → slot_test limits.k (claim.level - 1) claim.code (heads past ++ rest) ≡ left_test limits claim pass rest
+  pub passed : (rest : List Entry) → slot_test limits.k (claim.block.level - 1) claim.block.code (heads past ++ rest) ≡ left_test limits claim pass rest
   pub now_is : now ≡ seen_with first past
 
 pub heads_join : {A : Type 0} (f g : ForestOf A) → heads (f ⧺ g) ≡ heads f ++ heads g
@@ -56,12 +55,12 @@ two_words l n h =
     rw (drop-cons l n 0 (omega arith), drop-cons l (suc n) 0 (omega arith)) (ap (λ (j : ℕ). get_or l n 0 ∷ get_or l j 0 ∷ []) e)
 
 module _ {limits : Limits} {words : List ℕ} {claim : Claim} {first : Seen} where
-  pub walked_none : WalkedTo limits words claim first 0 (first_pass (claim.level - 1) claim.code) first
+  pub walked_none : WalkedTo limits words claim first 0 (first_pass (claim.block.level - 1) claim.block.code) first
   walked_none = record { past = empty; many = refl; names = refl; right = right_nothing; passed = λ rest. refl; now_is = seen_none first }
 
   pub walked_one : {i : ℕ} {pass next : Pass} {now more : Seen} {element : Element} → element ≡ element_at (part_of limits words claim) i
       → element_index i + 2 ≤ length (part_of limits words claim) → WalkedTo limits words claim first i pass now
-      → PassMeets limits.k (claim.level - 1) pass (entry_of element) (On next) → ElementWalked limits words element now more
+      → PassMeets limits.k (claim.block.level - 1) pass (entry_of element) (Ok next) → ElementWalked limits words element now more
       → WalkedTo limits words claim first (i + 1) next more
   walked_one {i} {element = element} e laid w p x =
       let part : List ℕ = part_of limits words claim in
@@ -79,7 +78,7 @@ module _ {limits : Limits} {words : List ℕ} {claim : Claim} {first : Seen} whe
         names = ap (λ (j : ℕ). take j (element_part part)) m ∙ take-add n 2 (element_part part) ∙ ap₂ ◌++◌ w.names own ∙ sym (words_join old one);
         right = right_join old one w.right x.at;
         passed = λ rest.
-            ap (slot_test limits.k (claim.level - 1) claim.code)
+            ap (slot_test limits.k (claim.block.level - 1) claim.block.code)
             (ap (λ (l : List Entry). l ++ rest) (heads_join old one) ∙ append_assoc (heads old) (heads one) rest
             ∙ ap (λ (l : List Entry). heads old ++ (l ++ rest)) (names_head element one x.names))
             ∙ w.passed (entry_of element ∷ rest) ∙ p.goes _ rest;

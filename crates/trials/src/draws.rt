@@ -1,10 +1,10 @@
 // What is drawn for a history and for each of its calls. A seed is the call's number among all calls; every draw of a call has a place of its own.
 ghost use Rattle.std.specs.Prelude.{◌<◌, ◌≤◌};
 
+use crate::steps::Image;
 use plain::blocks::Panel;
 use plain::calls::words_needed;
 use plain::codes::{side_of, size_of};
-use plain::images::Bytes;
 use plain::window::Window;
 
 // Two multiplications with a fold between them; the high bits are used.
@@ -35,17 +35,12 @@ pub fn panel_drawn(seed: u32) -> Panel {
 fn coordinate(seed: u32, place: u32, side: u32) -> u32
     requires { 1 ≤ side }
 {
-    let kind = draw(seed, place, 64);
-    if kind < 1 {
-        return 4294967295;
+    match draw(seed, place, 64) {
+        0 => u32::MAX,
+        1 => side,
+        2..=31 => draw(seed, place | 16, side),
+        _ => draw(seed, place | 16, 1 + side / 4),
     }
-    if kind < 2 {
-        return side;
-    }
-    if kind < 32 {
-        return draw(seed, place | 16, side);
-    }
-    draw(seed, place | 16, 1 + side / 4)
 }
 
 // A pixel is its near corner. The far corner is mostly not before the near one.
@@ -71,50 +66,35 @@ pub fn length_drawn(seed: u32, place: u32, needed: usize, all: usize, odds: u32)
     requires { 1 ≤ odds }
     ensures { result ≤ all }
 {
-    if needed < 1 {
-        return all;
-    }
-    if all < needed {
-        return all;
-    }
-    if draw(seed, place, odds) != 0 {
+    if needed < 1 || all < needed || draw(seed, place, odds) != 0 {
         return all;
     }
     needed - ((draw(seed, place | 1, 4) / 3) as usize)
 }
 
 pub fn number_drawn(seed: u32, place: u32, right: u32, below: u32, above: u32) -> u32 {
-    let kind = draw(seed, place, 8);
-    if kind < 1 {
-        return below;
+    match draw(seed, place, 8) {
+        0 => below,
+        1 => above,
+        _ => right,
     }
-    if kind < 2 {
-        return above;
-    }
-    right
 }
 
 // None, a few, or more than any register here has blocks.
 pub fn budget_drawn(seed: u32) -> u32 {
     let kind = draw(seed, 21, 16);
-    if kind < 12 {
-        return kind / 2;
+    match kind {
+        0..=11 => kind / 2,
+        12 | 13 => draw(seed, 22, 100),
+        _ => u32::MAX,
     }
-    if kind < 14 {
-        return draw(seed, 22, 100);
-    }
-    4294967295
 }
 
 // From none to one more than the panel has, if there are so many.
 pub fn code_number_drawn(seed: u32, panel: Panel, all: usize) -> usize
     ensures { result ≤ all }
 {
-    let number = draw(seed, 16, 2 + size_of(panel.m)) as usize;
-    if all < number {
-        return all;
-    }
-    number
+    all.min(draw(seed, 16, 2 + size_of(panel.m)) as usize)
 }
 
 // Codes that ascend in even steps, or are all alike; often one of them is another.
@@ -128,22 +108,18 @@ pub fn draw_codes(seed: u32, panel: Panel, codes: &mut [u32]) {
 
 fn write_steps(codes: &mut [u32], first: u32, step: u32) {
     let mut code = first;
-    let mut i: usize = 0;
-    while i < codes.len() {
-        codes[i] = code;
-        code = std::num::wrapping_add_u32(code, step);
-        i += 1;
+    for word in codes {
+        *word = code;
+        code = code.wrapping_add(step);
     }
 }
 
 // The image of another panel may become one of this panel; any byte may be wrong; often none is changed.
-pub fn change(seed: u32, panel: Panel, image: &mut Bytes) {
-    let kind = draw(seed, 7, 8);
-    if kind < 1 {
-        image[0] = (panel.m % 256) as u8;
-    } else if kind < 2 {
-        image[1] = panel.k;
-    } else if kind < 5 {
-        image[draw(seed, 8, 128) as usize] = draw(seed, 9, 20) as u8;
+pub fn change(seed: u32, panel: Panel, image: &mut Image) {
+    match draw(seed, 7, 8) {
+        0 => image[0] = (panel.m % 256) as u8,
+        1 => image[1] = panel.k,
+        2..=4 => image[draw(seed, 8, 128) as usize] = draw(seed, 9, 20) as u8,
+        _ => {}
     }
 }

@@ -4,9 +4,11 @@
 ghost use Rattle.std.specs.Prelude.{◌≤◌};
 
 use crate::draws::panel_drawn;
-use crate::report::Totals;
-use plain::blocks::Panel;
-use plain::images::Bytes;
+use crate::report::{Totals, Turn, is_sound};
+use crate::steps::{Call, Image};
+use console::Console;
+use plain::blocks::Marked;
+use std::fmt::Write;
 
 mod draws;
 mod numbers;
@@ -14,43 +16,52 @@ mod report;
 mod steps;
 
 fn main() {
-    let mut totals = [0u32; 17];
+    let mut totals = Totals::new();
     let mut image = [0u8; 2048];
     for history in 0..500u32 {
-        if !run_history(history, &mut image, &mut totals) {
+        if let Some(turn) = first_difference(history, &mut image, &mut totals) {
+            let _ = writeln!(Console, "{turn}");
             return;
         }
     }
-    report::print_totals(&totals);
+    let _ = writeln!(Console, "{totals}");
 }
 
-// False at the first difference. No call has the seed of the panel.
-fn run_history(history: u32, image: &mut Bytes, totals: &mut Totals) -> bool
+// No call has the seed of the panel.
+fn first_difference(history: u32, image: &mut Image, totals: &mut Totals) -> Option<Turn>
     requires { history ≤ 500 }
 {
-    let panel = panel_drawn(history);
+    let mut marked = Marked::empty(panel_drawn(history));
     let mut store = [0u32; 2500];
-    register::make(&mut store, panel.m, panel.k as u32, panel.most);
-    run_calls(history, panel, &mut store, image, totals)
+    let panel = marked.panel;
+    let _ = register::make(&mut store, panel.m, panel.k as u32, panel.most);
+    run_calls(history, &mut store, &mut marked, image, totals)
 }
 
 fn run_calls(
     history: u32,
-    panel: Panel,
     store: &mut [u32],
-    image: &mut Bytes,
+    marked: &mut Marked,
+    image: &mut Image,
     totals: &mut Totals,
-) -> bool
+) -> Option<Turn>
     requires { history ≤ 500 }
 {
-    let mut set = [false; 256];
     for number in 0..600u32 {
         let seed = 600 * history + number + 500;
-        let call = steps::call_drawn(seed, number / 100 % 2);
-        let step = steps::run(call, seed, panel, store, &mut set, image);
-        if !report::is_noted(history, number, call, step, store, totals) {
-            return false;
+        let call = Call::drawn(seed, number / 100 % 2 == 1);
+        let step = steps::run(call, seed, store, marked, image);
+        let turn = Turn {
+            history,
+            number,
+            call,
+            step,
+            sound: is_sound(store),
+        };
+        if !turn.is_right() {
+            return Some(turn);
         }
+        totals.add(step.got.refusal);
     }
-    true
+    None
 }

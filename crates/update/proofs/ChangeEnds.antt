@@ -4,6 +4,8 @@ use native.Mathlib.Omega.{arith}
 use mathlib.Core.Path.{◌≡◌, refl, ap, subst, sym, ◌∙◌}
 use mathlib.Core.Bool.{Bool, true, false, not}
 use mathlib.Core.Option.{some}
+use Rattle.std.specs.Prelude.{Result, Ok, Err}
+use Rattle.store.specs.declared.Damaged as store
 use mathlib.Core.List.{List, ◌∷◌, ◌++◌, append-nil}
 use lib.Dec.{eqb}
 use lib.ListN.{length, take, drop, set, length-set}
@@ -28,14 +30,15 @@ use Rattle.store.proofs.SlotsLeft.{blocks_counted}
 use Rattle.measures.proofs.SlotWrites.{take_less, word_in_front}
 use Rattle.measures.proofs.Usable.{sizes_kept, usable_kept, layout_fits}
 use Rattle.descent.specs.declared.Located.{Located}
-use Rattle.descent.specs.Located.{LocatedIn, LocateMeets}
+use Rattle.descent.specs.declared.Passed.{Passed}
+use Rattle.descent.specs.Located.{SoundArguments, NoSound, LocatedIn, LocatedRight}
 use Rattle.descent.proofs.SmallestLocated.{marked_exactly}
 use Rattle.ascent.proofs.Completed.{Completed}
 use Rattle.step.specs.declared.Change.{Change}
 use Rattle.step.proofs.RegroupEnds.{kept_same}
 use Rattle.step.proofs.StepEnds.{kept_then}
 use Rattle.step.specs.Step.{Kept}
-use Rattle.update.specs.declared.marks.Changing.TheVariants as changing
+use Rattle.update.specs.declared.marks.Unchanged.TheVariants.{Already, Disallowed, Damaged}
 use Rattle.update.specs.Changed.{OnePixel, comes, goes, exchanged, CanChange, ChangeMeets}
 use Rattle.renumbering.specs.Renumber.{path_slots, CanRenumber, PathRenumbered}
 use Rattle.propagate.specs.Propagate.{CanPropagate, PropagateMeets}
@@ -94,19 +97,12 @@ exchanged_there : {out coming : ℕ} (code : ℕ) (one : OnePixel out coming) (l
 exchanged_there code comes left right q before after = sym (added_at_place code 0 left right after) ∙ ap (added code) (sym q)
 exchanged_there code goes left right q before after = sym (removed_at_place code 0 left right (rw q at before)) ∙ ap (removed code) (sym q)
 
--- what is left of a change that went all the way up, and of one that was stopped
-abbrev pub CarriedUp : List ℕ → List ℕ → ℕ → Bool → ℕ → Bool → Type 0
-CarriedUp before after code allowed out true = ChangeMeets before after code allowed out changing.Changed
-CarriedUp before after code allowed out false = ChangeMeets before (set after 0 0) code allowed out changing.Damaged
-
--- what is known once the code is located in a store to which refusal 3 does not apply
-pub record LocatedAt (before : List ℕ) (sizes : Sizes) (layout : Layout) (code : ℕ) (allowed : Bool) (out coming : ℕ) (slots places : List ℕ) (located : Located) : Type 0 where
+-- what is known once the code is looked for in a store to which refusal 3 does not apply
+pub record Told (before : List ℕ) (sizes : Sizes) (layout : Layout) (code : ℕ) (allowed : Bool) (out coming : ℕ) : Type 0 where
   pub can : CanChange before sizes code allowed out coming
   pub laid : LaidOut sizes layout
-  pub meets : LocateMeets before layout sizes.order code slots places located
 
-module _ {before slots places : List ℕ} {sizes : Sizes} {layout : Layout} {code out coming : ℕ} {allowed : Bool} {located : Located}
-    (u : LocatedAt before sizes layout code allowed out coming slots places located) where
+module _ {before : List ℕ} {sizes : Sizes} {layout : Layout} {code out coming : ℕ} {allowed : Bool} (u : Told before sizes layout code allowed out coming) where
   layout_is : layout ≡ layout_of (sizes_of before)
   layout_is = u.laid.is ∙ ap layout_of u.can.given.0.1
 
@@ -116,25 +112,15 @@ module _ {before slots places : List ℕ} {sizes : Sizes} {layout : Layout} {cod
   most_is : sizes.most ≡ (sizes_of before).most
   most_is = ap (λ (z : Sizes). z.most) u.can.given.0.1
 
-  found : (was : List ℕ) (h : Holds before was) → (located.damaged ≡ false) × LocatedIn before h.placed code slots places located
-  found was h = u.meets.sound h.placed h.sound layout_is order_is u.can.given.1
-
-  -- 02, P8: the pixel is in the set where it was found to be an element of the smallest block, by the law of that block
-  as_located : {marked : Bool} → located.marked ≡ marked → (was : List ℕ) → Holds before was → member was code ≡ marked
-  as_located e was h = ap (λ (l : List ℕ). member l code) (sym h.set_is) ∙ marked_exactly h.sound (found was h).1 ∙ e
-
-  -- a store that cannot be opened at its root is told
-  opens : located.damaged ≡ false → CannotOpen (slot_width (sizes_of before).k) before 0 (sizes_of before).order 0 → ⊥
-  opens e shut =
-      let t : located.damaged ≡ true = u.meets.closed (rw (ap (λ (z : Layout). z.width) layout_is, order_is) shut) in
-      zero_is_not_one (cc)
+  sound_arguments : {was : List ℕ} (h : Holds before was) → SoundArguments before h.placed layout sizes.order code
+  sound_arguments h = record { sound = h.sound; layout_is = layout_is; order_is = order_is; on_panel = u.can.given.1 }
 
   -- what lies past the formula, by the store's own sizes
   past_kept : {after : List ℕ} → Kept layout before after → drop (store_words (sizes_of before)) after ≡ drop (store_words (sizes_of before)) before
   past_kept {after} kept = (subst (λ (z : Layout). Kept z before after) layout_is kept).past
 
   -- word 0 is written zero, on a store that holds no set
-  damaged_end : {mid : List ℕ} → Kept layout before mid → ((was : List ℕ) → Holds before was → ⊥) → ChangeMeets before (set mid 0 0) code allowed out changing.Damaged
+  damaged_end : {mid : List ℕ} → Kept layout before mid → ((was : List ℕ) → Holds before was → ⊥) → ChangeMeets before (set mid 0 0) code allowed out (Err Damaged)
   damaged_end {mid} kept never =
       record {
         sound = never;
@@ -145,28 +131,39 @@ module _ {before slots places : List ℕ} {sizes : Sizes} {layout : Layout} {cod
       }
 
   -- the descent ends well on a sound store
-  pub never_located : located.damaged ≡ true → ChangeMeets before (set before 0 0) code allowed out changing.Damaged
-  never_located e = damaged_end (kept_same _ _ _ refl) (λ was h. let f : located.damaged ≡ false = (found was h).0 in zero_is_not_one (cc))
-
-  -- the slots of the path, as the descent names them
-  abbrev path : List ℕ
-  path = located.slot ∷ path_slots slots located.depth
+  pub never_located : NoSound before layout sizes.order code → ChangeMeets before (set before 0 0) code allowed out (Err Damaged)
+  never_located never = damaged_end (kept_same _ _ _ refl) (λ was h. never h.placed (sound_arguments h))
 
   -- at most one pixel goes, and at most one comes
   pub at_most_one : (out ≤ 1) × (coming ≤ 1)
   at_most_one = let (o, n) = at_most_pixel code u.can.one in (o.one, n.one)
 
-  module _ (whole : located.damaged ≡ false) where
-    pub already_so : located.marked ≡ not (eqb out 1) → ChangeMeets before before code allowed out changing.Already
-    already_so e = record { sound = λ was h. (as_located e was h, refl); leaves = refl; closed = λ shut. absurd (opens whole shut); long = refl; past = refl }
+  module _ {path : List Passed} {located : Located} (right : LocatedRight before layout sizes.order code path located) where
+    found : (was : List ℕ) (h : Holds before was) → LocatedIn before h.placed code path located
+    found was h = right.sound h.placed (sound_arguments h)
 
-    pub disallowed : located.marked ≡ eqb out 1 → allowed ≡ false → ChangeMeets before before code allowed out changing.Disallowed
-    disallowed e none = record { sound = λ was h. (as_located e was h, none, refl); leaves = refl; closed = λ shut. absurd (opens whole shut); long = refl; past = refl }
+    -- 02, P8: the pixel is in the set where it was found to be an element of the smallest block, by the law of that block
+    as_located : {marked : Bool} → located.marked ≡ marked → (was : List ℕ) → Holds before was → member was code ≡ marked
+    as_located e was h = ap (λ (l : List ℕ). member l code) (sym h.set_is) ∙ marked_exactly h.sound (found was h) ∙ e
+
+    -- a store that cannot be opened at its root is told
+    opens : CannotOpen (slot_width (sizes_of before).k) before 0 (sizes_of before).order 0 → ⊥
+    opens shut = right.opened (rw (ap (λ (z : Layout). z.width) layout_is, order_is) shut)
+
+    -- the slots of the path, as the descent names them
+    abbrev along_path : List ℕ
+    along_path = located.block.slot ∷ path_slots path located.depth
+
+    pub already_so : located.marked ≡ not (eqb out 1) → ChangeMeets before before code allowed out (Err Already)
+    already_so e = record { sound = λ was h. (as_located e was h, refl); leaves = refl; closed = λ shut. absurd (opens shut); long = refl; past = refl }
+
+    pub disallowed : located.marked ≡ eqb out 1 → allowed ≡ false → ChangeMeets before before code allowed out (Err Disallowed)
+    disallowed e none = record { sound = λ was h. (as_located e was h, none, refl); leaves = refl; closed = λ shut. absurd (opens shut); long = refl; past = refl }
 
     -- the numbers of the path can be changed
-    pub can_renumber : {r i : ℕ} → r ≤ 1 → i ≤ 1 → CanRenumber layout before located slots r i
+    pub can_renumber : {r i : ℕ} → r ≤ 1 → i ≤ 1 → CanRenumber layout before located path r i
     can_renumber removed_to inserted_to =
-        let b = u.meets.bounds whole in
+        let b = right.bounds in
         record {
           fits = layout_fits sizes layout before u.can.given.0.0 u.can.given.0.1 u.laid;
           slot_below = b.slot_below;
@@ -184,7 +181,7 @@ module _ {before slots places : List ℕ} {sizes : Sizes} {layout : Layout} {cod
       k_said = k_is ∙ ap (λ (z : Sizes). z.k) u.can.given.0.1
 
       -- and the change can go up
-      pub can_propagate : {r i : ℕ} {lent : List ℕ} → PathRenumbered layout path r i before lent → CanPropagate change lent located slots out coming
+      pub can_propagate : {r i : ℕ} {lent : List ℕ} → PathRenumbered layout along_path r i before lent → CanPropagate change lent located path out coming
       can_propagate along =
           let v = u.can.given.0.0.valid.panel in
           let r = can_renumber at_most_one.0 at_most_one.1 in
@@ -195,26 +192,26 @@ module _ {before slots places : List ℕ} {sizes : Sizes} {layout : Layout} {cod
             slot_below = r.slot_below;
             deep = r.deep;
             path_below = r.path_below;
-            place_to = (u.meets.bounds whole).place_below;
+            place_to = right.bounds.place_below;
             removed_to = r.removed_to;
             inserted_to = r.inserted_to;
           }
 
-      module _ {lent after : List ℕ} (along : PathRenumbered layout path out coming before lent) (expected : located.marked ≡ eqb out 1) (room : allowed ≡ true) where
-        kept_all : {r : Bool} → PropagateMeets change located slots places out coming lent after r → Kept layout before after
-        kept_all s = kept_then (kept_renumbered along) s.kept
+      module _ {lent after : List ℕ} {r : Result (Unit {0}) store.Damaged} (along : PathRenumbered layout along_path out coming before lent) (expected : located.marked ≡ eqb out 1)
+          (room : allowed ≡ true) (s : PropagateMeets change located path out coming lent after r) where
+        kept_all : Kept layout before after
+        kept_all = kept_then (kept_renumbered along) s.kept
 
         -- the change goes all the way up, and the store holds the set to come
-        propagated : {r : Bool} → PropagateMeets change located slots places out coming lent after r → (was : List ℕ) → Holds before was
-            → (r ≡ true) × Holds after (exchanged out code was) × (sizes_of after ≡ sizes_of before)
-        propagated s was h =
+        propagated : (was : List ℕ) → Holds before was → (r ≡ Ok tt) × Holds after (exchanged out code was) × (sizes_of after ≡ sizes_of before)
+        propagated was h =
             let one : OnePixel out coming = u.can.one in
             let held = held_number h ∙ ap length (sym h.set_is) in
-            let b = change_begins before h.placed h.sound code located (found was h).1 one
-            (subst (λ (z : Layout). PathRenumbered z path out coming before lent) layout_is along) expected
+            let b = change_begins before h.placed h.sound code located (found was h) one
+            (subst (λ (z : Layout). PathRenumbered z along_path out coming before lent) layout_is along) expected
             (rw (held, most_is) at (u.can.allows room)) in
             let target : List ℕ = b.left ++ (pixels (pixels_at coming code) ++ b.right) in
-            let kept : Kept (layout_of (sizes_of before)) before after = subst (λ (z : Layout). Kept z before after) layout_is (kept_all s) in
+            let kept : Kept (layout_of (sizes_of before)) before after = subst (λ (z : Layout). Kept z before after) layout_is kept_all in
             let (told, rest) = s.right (setting_of before h.sound.usable code target b.few) (record { layout_is = layout_is; k_is = k_said; x_is = refl }) b.pending in
             let holds = holds_target before after h.sound.usable code target b.few kept rest in
             let q : was ≡ b.left ++ (pixels (pixels_at out code) ++ b.right) = sym h.set_is ∙ b.set_was in (
@@ -223,14 +220,17 @@ module _ {before slots places : List ℕ} {sizes : Sizes} {layout : Layout} {cod
               sizes_stay before after h.sound.usable code target b.few kept,
             )
 
-        -- all is written, or word 0 is written zero where the change was stopped
-        pub carried_up : (r : Bool) → PropagateMeets change located slots places out coming lent after r → CarriedUp before after code allowed out r
-        carried_up true s =
+        -- all is written
+        pub carried_up : ChangeMeets before after code allowed out (Ok tt)
+        carried_up =
             record {
-              sound = λ was h. (as_located expected was h, room, (propagated s was h).1, (propagated s was h).2);
+              sound = λ was h. (as_located expected was h, room, (propagated was h).1, (propagated was h).2);
               leaves = tt;
-              closed = λ shut. absurd (opens whole shut);
-              long = (kept_all s).long;
-              past = past_kept (kept_all s);
+              closed = λ shut. absurd (opens shut);
+              long = kept_all.long;
+              past = past_kept kept_all;
             }
-        carried_up false s = damaged_end (kept_all s) (λ was h. zero_is_not_one (cc (propagated s was h).0))
+
+        -- or word 0 is to be written zero, where the change was stopped
+        pub stopped : {e : store.Damaged} → r ≡ Err e → ChangeMeets before (set after 0 0) code allowed out (Err Damaged)
+        stopped e = damaged_end kept_all (λ was h. zero_is_not_one (cc (e, (propagated was h).0)))

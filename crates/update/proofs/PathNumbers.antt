@@ -2,7 +2,7 @@
 use Prim.Native.Nat.{ℕ, suc, ◌+◌, ◌-◌, ◌^◌, ◌≤◌, ◌<◌}
 use native.Mathlib.Omega.{arith}
 use native.Mathlib.Decide.{dec_le}
-use mathlib.Core.Path.{◌≡◌, refl, ap₂, sym, ◌∙◌}
+use mathlib.Core.Path.{◌≡◌, refl, ap, ap₂, sym, ◌∙◌}
 use mathlib.Core.Logic.{◌⊎◌, inl, inr}
 use mathlib.Core.List.{List, [], ◌∷◌, ◌++◌}
 use lib.ListN.{length}
@@ -22,6 +22,7 @@ use Rattle.store.proofs.SlotTotals.{every_occurs}
 use Rattle.store.proofs.BlockNumbers.{chain_levels}
 use Rattle.store.proofs.NumbersBetween.{number_few}
 use Rattle.descent.specs.Way.{Frame}
+use Rattle.descent.specs.declared.Passed.{Passed}
 use Rattle.descent.specs.Located.{PathNames}
 use Rattle.ascent.proofs.Frames.{FramesRight, FramesStand, way_slots, frame_holds}
 use Rattle.renumbering.specs.Renumber.{path_slots, PathRenumbered}
@@ -51,9 +52,9 @@ way_slots_lem t (f ∷ way) =
       occurrences_join t v (beside_slots way),
     )
 
-pub path_is : (slots places : List ℕ) (way : List Frame) → PathNames slots places way → path_slots slots (length way) ≡ frame_slots way
-path_is slots places [] h = refl
-path_is slots places (f ∷ way) h = ap₂ ◌∷◌ h.0 (path_is slots places way h.2)
+pub path_is : (passed : List Passed) (way : List Frame) → PathNames passed way → path_slots passed (length way) ≡ frame_slots way
+path_is passed [] h = refl
+path_is passed (f ∷ way) h = ap₂ ◌∷◌ (ap (λ (p : Passed). p.slot) h.0) (path_is passed way h.1)
 
 -- a code lies in the block that a slot says, or beside it
 abbrev InBlock : ℕ → List ℕ → Type 0

@@ -25,35 +25,29 @@ same_test false true p q = p.1 (q.0 refl)
 same_test false false p q = refl
 
 -- four comparisons, the second pair after the first
-four_exactly : (a b c d e f g h : ℕ) → ((leb a b && (leb c d && (leb e f && leb g h))) ≡ true) ↔ ((a ≤ b) × (c ≤ d) × (e ≤ f) × (g ≤ h))
+four_exactly : (a b c d e f g h : ℕ) → (((leb a b && leb c d) && (leb e f && leb g h)) ≡ true) ↔ ((a ≤ b) × (c ≤ d) × (e ≤ f) × (g ≤ h))
 four_exactly a b c d e f g h =
-    let first = and-eq-true_iff (leb a b) (leb c d && (leb e f && leb g h)) in
-    let second = and-eq-true_iff (leb c d) (leb e f && leb g h) in
-    let third = and-eq-true_iff (leb e f) (leb g h) in (
-      (λ t. let u = first.0 t in
-          let v = second.0 u.1 in
-          let w = third.0 v.1 in
-          (leb-true a b u.0, leb-true c d v.0, leb-true e f w.0, leb-true g h w.1)),
-      (λ t. first.1 (le-leb a b t.0, second.1 (le-leb c d t.1, third.1 (le-leb e f t.2, le-leb g h t.3)))),
+    let both = and-eq-true_iff (leb a b && leb c d) (leb e f && leb g h) in
+    let first = and-eq-true_iff (leb a b) (leb c d) in
+    let second = and-eq-true_iff (leb e f) (leb g h) in (
+      (λ t. let u = both.0 t in
+          let v = first.0 u.0 in
+          let w = second.0 u.1 in
+          (leb-true a b v.0, leb-true c d v.1, leb-true e f w.0, leb-true g h w.1)),
+      (λ t. both.1 (first.1 (le-leb a b t.0, le-leb c d t.1), second.1 (le-leb e f t.2, le-leb g h t.3))),
     )
 
--- four comparisons decide a test
-pub record Decide (a b c d t : Bool) : Type 0 where
-  pub all : (a && (b && (c && d))) ≡ t
+-- two pairs of comparisons decide a test
+pub record Decide (first second t : Bool) : Type 0 where
+  pub all : (first && second) ≡ t
 
--- the first of them that fails, or the last if none before it does
-module _ {a b c d t : Bool} (four : Decide a b c d t) where
-  pub first_decides : a ≡ false → false ≡ t
-  first_decides e = rw e at four.all
+-- the first pair where it fails, and the second where the first does not
+module _ {first second t : Bool} (both : Decide first second t) where
+  pub first_decides : {a : Bool} → a ≡ first → a ≡ false → a ≡ t
+  first_decides e f = f ∙ (rw (sym e ∙ f) at both.all)
 
-  pub second_decides : a ≡ true → b ≡ false → false ≡ t
-  second_decides e f = rw (e, f) at four.all
-
-  pub third_decides : a ≡ true → b ≡ true → c ≡ false → false ≡ t
-  third_decides e f g = rw (e, f, g) at four.all
-
-  pub fourth_decides : {r : Bool} → a ≡ true → b ≡ true → c ≡ true → r ≡ d → r ≡ t
-  fourth_decides e f g h = h ∙ (rw (e, f, g) at four.all)
+  pub second_decides : {a r : Bool} → a ≡ first → a ≡ true → r ≡ second → r ≡ t
+  second_decides e f g = g ∙ (rw (sym e ∙ f) at both.all)
 
 -- the code of a block's far corner
 abbrev pub far_code : ℕ → ℕ → ℕ
@@ -63,7 +57,7 @@ far_code level code = code + (4 ^ level - 1)
 module _ (window : Window) {level code : ℕ} (on : OnGrid level code) (es : Forest) where
   -- each begins before the other ends
   pub shares_by_corners : Ordered window
-      → Decide (leb (x_of code) window.x1) (leb (y_of code) window.y1) (leb window.x0 (x_of (far_code level code))) (leb window.y0 (y_of (far_code level code)))
+      → Decide (leb (x_of code) window.x1 && leb (y_of code) window.y1) (leb window.x0 (x_of (far_code level code)) && leb window.y0 (y_of (far_code level code)))
       (shares_pixel window (block_of level code es))
   shares_by_corners ordered =
       let block : Block largest level code = record { low = on.level_to; aligned = on.aligned; corner = omega (arith, on.ends, pow_pos level) } in
@@ -79,7 +73,7 @@ module _ (window : Window) {level code : ℕ} (on : OnGrid level code) (es : For
 
   -- the block begins and ends in the window
   pub inside_by_corners
-      : Decide (leb window.x0 (x_of code)) (leb window.y0 (y_of code)) (leb (x_of (far_code level code)) window.x1) (leb (y_of (far_code level code)) window.y1)
+      : Decide (leb window.x0 (x_of code) && leb window.y0 (y_of code)) (leb (x_of (far_code level code)) window.x1 && leb (y_of (far_code level code)) window.y1)
       (wholly_inside window (block_of level code es))
   inside_by_corners =
       let inside = corners_inside_exactly window level code es on.level_to on.aligned on.ends in

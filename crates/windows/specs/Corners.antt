@@ -1,5 +1,5 @@
 -- The window of a call as 01's, its part on the panel between two corners given by their codes, and the tests that a walk makes of it.
-use Rattle.std.specs.Prelude.{ℕ, ◌+◌, ◌^◌, ◌≤◌, ◌≡◌, Bool, true, false}
+use Rattle.std.specs.Prelude.{ℕ, ◌+◌, ◌^◌, ◌≤◌, ◌≡◌, Bool, true, false, ◌&&◌, nat_le, Option, Some, None}
 use Rattle.morton.specs.Code.{x_of, y_of}
 use Rattle.pktree.specs.Panel.{Panel, Aligned}
 use Rattle.pktree.specs.Elements.{Forest}
@@ -8,8 +8,6 @@ use Rattle.pktree.specs.Window as tree
 use Rattle.pktree.specs.Window.{in_window, Ordered, part_on, shares_pixel, wholly_inside}
 use Rattle.windows.specs.declared.Window.{Window}
 use Rattle.windows.specs.declared.Corners.{Corners}
-use Rattle.windows.specs.declared.Part.{Part}
-use Rattle.windows.specs.declared.Part.TheVariants.{Between, Empty}
 use Rattle.windows.specs.declared.Lying.{Lying}
 use Rattle.windows.specs.declared.Lying.TheVariants.{Apart, OverEdge, Inside}
 use Rattle.measures.specs.declared.sizes.Sizes.{Sizes}
@@ -27,9 +25,9 @@ pub record PartBetween (panel : Panel) (window : tree.Window) (corners : Corners
   pub ordered : Ordered (part_on panel window)
 
 -- or is empty
-abbrev pub PartOf : Panel → tree.Window → Part → Type 0
-PartOf panel window (Between corners) = PartBetween panel window corners
-PartOf panel window Empty = Ordered (part_on panel window) → ⊥
+abbrev pub PartOf : Panel → tree.Window → Option Corners → Type 0
+PartOf panel window (Some corners) = PartBetween panel window corners
+PartOf panel window None = Ordered (part_on panel window) → ⊥
 
 -- the corners of some part of the panel
 abbrev pub PartCorners : Panel → Corners → Type 0
@@ -44,6 +42,10 @@ pub record OnGrid (level code : ℕ) : Type 0 where
 
 pub record PixelTested (corners : Corners) (code : ℕ) (r : Bool) : Type 0 where
   pub says : Ordered (window_between corners) → r ≡ in_window (window_between corners) code
+
+-- one pixel lies neither right of another nor above it
+abbrev pub BothAtMost : ℕ → ℕ → Bool → Type 0
+BothAtMost a b r = r ≡ (nat_le (x_of a) (x_of b) && nat_le (y_of a) (y_of b))
 
 pub record SharingTested (corners : Corners) (level code : ℕ) (r : Bool) : Type 0 where
   pub says : OnGrid level code → Ordered (window_between corners) → (es : Forest) → r ≡ shares_pixel (window_between corners) (block_of level code es)

@@ -1,12 +1,11 @@
 // The window of a call: its part on the panel between two codes, and how a pixel or a block lies to it.
 #![tactic(auto)]
 
-ghost use Rattle.std.specs.Prelude.{min, ◌≡◌};
 ghost use Rattle.measures.specs.Sizes.{ValidSizes, panel_of};
-ghost use Rattle.windows.specs.Corners.{window_of, PartOf, PixelTested, SharingTested, InsideTested, LyingTested, PanelTested};
+ghost use Rattle.windows.specs.Corners.{window_of, PartOf, BothAtMost, PixelTested, SharingTested, InsideTested, LyingTested, PanelTested};
 
 use measures::sizes::Sizes;
-use morton::{last_code, x_at_most, y_at_most};
+use morton::{X, Y, at_most, between, last_code};
 
 // 01: both corners included.
 #[derive(Clone, Copy)]
@@ -24,37 +23,21 @@ pub struct Corners {
     pub last: u32,
 }
 
-// The part of a window on the panel.
-#[derive(Clone, Copy)]
-pub enum Part {
-    Between(Corners),
-    Empty,
-}
-
-fn lowered(coordinate: u32, last: u32) -> u32
-    ensures { result ≡ min coordinate last }
-{
-    if last < coordinate {
-        return last;
-    }
-    coordinate
-}
-
 // 02, P3: the far corner is lowered to the panel's last column and row, before codes are made: a coordinate above 65,535 has none.
-pub fn part_on(sizes: Sizes, window: Window) -> Part
+pub fn part_on(sizes: Sizes, window: Window) -> Option<Corners>
     requires { ValidSizes sizes }
     ensures { PartOf (panel_of sizes) (window_of window) result }
 {
     let last = (1u32 << sizes.order) - 1;
-    let x1 = lowered(window.x1, last);
-    let y1 = lowered(window.y1, last);
+    let x1 = window.x1.min(last);
+    let y1 = window.y1.min(last);
     if x1 < window.x0 {
-        return Part::Empty;
+        return None;
     }
     if y1 < window.y0 {
-        return Part::Empty;
+        return None;
     }
-    Part::Between(Corners {
+    Some(Corners {
         first: morton::code_of(window.x0, window.y0),
         last: morton::code_of(x1, y1),
     })
@@ -63,44 +46,29 @@ pub fn part_on(sizes: Sizes, window: Window) -> Part
 pub fn has_pixel(corners: Corners, code: u32) -> bool
     ensures { PixelTested corners code result }
 {
-    if !morton::x_between(corners.first, corners.last, code) {
-        return false;
-    }
-    morton::y_between(corners.first, corners.last, code)
+    between::<X>(corners.first, corners.last, code)
+        && between::<Y>(corners.first, corners.last, code)
+}
+
+// Whether a pixel lies neither right of another nor above it.
+fn both_at_most(a: u32, b: u32) -> bool
+    ensures { BothAtMost a b result }
+{
+    at_most::<X>(a, b) && at_most::<Y>(a, b)
 }
 
 // A block shares a pixel with the window where each begins before the other ends, on both axes.
 pub fn meets(corners: Corners, level: u32, code: u32) -> bool
     ensures { SharingTested corners level code result }
 {
-    if !x_at_most(code, corners.last) {
-        return false;
-    }
-    if !y_at_most(code, corners.last) {
-        return false;
-    }
-    let last = last_code(code, level);
-    if !x_at_most(corners.first, last) {
-        return false;
-    }
-    y_at_most(corners.first, last)
+    both_at_most(code, corners.last) && both_at_most(corners.first, last_code(code, level))
 }
 
 // 02, P4: a block lies wholly inside the window where its lowest and its highest pixel do.
 pub fn lies_inside(corners: Corners, level: u32, code: u32) -> bool
     ensures { InsideTested corners level code result }
 {
-    if !x_at_most(corners.first, code) {
-        return false;
-    }
-    if !y_at_most(corners.first, code) {
-        return false;
-    }
-    let last = last_code(code, level);
-    if !x_at_most(last, corners.last) {
-        return false;
-    }
-    y_at_most(last, corners.last)
+    both_at_most(corners.first, code) && both_at_most(last_code(code, level), corners.last)
 }
 
 // How a block lies to the window.
@@ -128,15 +96,6 @@ pub fn has_panel(sizes: Sizes, window: Window) -> bool
     requires { ValidSizes sizes }
     ensures { PanelTested sizes window result }
 {
-    if 0 < window.x0 {
-        return false;
-    }
-    if 0 < window.y0 {
-        return false;
-    }
     let far = (1u32 << sizes.order) - 1;
-    if window.x1 < far {
-        return false;
-    }
-    far <= window.y1
+    window.x0 == 0 && window.y0 == 0 && far <= window.x1 && far <= window.y1
 }

@@ -1,6 +1,5 @@
-use mathlib.Core.Path.{refl}
 use Rattle.bestfirst.proofs.Stating.{stated}
 use Rattle.bestfirst.proofs.known.Goals as goal
 
 pub returns : goal.returns
-returns c = stated refl c.distance_shown.ensures
+returns c = stated c.pixel_shown.ensures

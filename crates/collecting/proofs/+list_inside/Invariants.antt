@@ -9,5 +9,5 @@ decreases-list_inside l = l.above
 
 abbrev pub invariant-loop-i : goal.invariant-loop-i
 invariant-loop-i l =
-    InLoop (Lists of_all largest_most l.layout.slots) l.layout l.store l.above l.slot l.level l.code l.count l.part l.i (l.initial.out, l.initial.found, l.initial.opened, 0)
-    (l.out, l.found, l.opened, 0)
+    InLoop (Lists of_all largest_most l.slots.layout.slots) l.slots.layout l.slots.words.now l.above l.slot l.level l.code l.count l.part l.i
+    (l.initial.out, l.initial.sum.found, l.initial.sum.opened, l.initial.sum.tested) (l.out, l.sum.found, l.sum.opened, l.sum.tested)

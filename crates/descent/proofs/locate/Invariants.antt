@@ -1,8 +1,8 @@
 use Rattle.descent.proofs.Descending.{Descended}
 use Rattle.descent.proofs.locate.Given as goal
 
-abbrev pub invariant-loop-level : goal.invariant-loop-level
-invariant-loop-level l = Descended l.store l.layout l.order l.code l.slots l.places l.depth l.slot l.level l.block
+abbrev pub invariant-loop-block : goal.invariant-loop-block
+invariant-loop-block l = Descended l.store.words.now l.store.layout l.order l.code l.path l.depth l.block.slot l.block.level l.block.code
 
-abbrev pub decreases-loop-level : goal.decreases-loop-level
-decreases-loop-level l = l.level
+abbrev pub decreases-loop-block : goal.decreases-loop-block
+decreases-loop-block l = l.block.level

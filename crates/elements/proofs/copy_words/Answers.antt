@@ -2,8 +2,7 @@
 use Prim.Native.Nat.{◌+◌, ◌<◌}
 use native.Mathlib.Numerals.{add-one}
 use native.Mathlib.Omega.{arith}
-use borrow.Author.Rules.{rules}
-use lib.ListN.{length, length-set}
+use lib.ListN.{length}
 use lib.Seq.{paste-suc}
 use Rattle.elements.proofs.copy_words.Goals as goal
 
@@ -13,4 +12,4 @@ loop-j-preserved c =
     let a = c.args in
     let hd : a.at + l.j < length a.target.now = omega arith in
     let hs : l.j < length a.source.now = omega arith in
-    (search rules, rw (l.invariant.1, add-one, paste-suc a.target.now a.at a.source.now l.j 0 hd hs), simp length-set (search rules))
+    rw (l.invariant, add-one, paste-suc a.target.now a.at a.source.now l.j 0 hd hs)

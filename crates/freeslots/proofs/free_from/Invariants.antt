@@ -3,7 +3,4 @@ use Rattle.freeslots.specs.FreeSlots.{FreeFrom}
 use Rattle.freeslots.proofs.free_from.Given as goal
 
 abbrev pub invariant-loop-slot : goal.invariant-loop-slot
-invariant-loop-slot l = (l.first ≤ l.slot) × (l.slot ≤ l.layout.slots) × FreeFrom l.layout l.slot l.initial.store l.store
-
-abbrev pub decreases-loop-slot : goal.decreases-loop-slot
-decreases-loop-slot l = l.slot
+invariant-loop-slot l = (l.first ≤ l.slot) × FreeFrom l.layout l.slot l.initial.store l.store

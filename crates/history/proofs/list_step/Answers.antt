@@ -1,11 +1,9 @@
 use Prim.Native.Nat.{ℕ}
-use native.Mathlib.Omega.{arith}
 use mathlib.Core.Path.{subst}
-use lib.ListN.{take, replicate, length-take}
+use lib.ListN.{take, replicate}
 use Rattle.promises.specs.Survivors.{list}
 use Rattle.history.specs.Run.{Step}
 use Rattle.history.proofs.CallSteps.{list_step}
-use borrow.Author.Rules.{rules}
 use Rattle.history.proofs.list_step.Goals as goal
 
 pub returns : goal.returns

@@ -1,10 +1,8 @@
-use Prim.Native.Nat.{ℕ, ◌+◌, ◌-◌, ◌/◌, ◌≤◌}
-use native.Mathlib.Omega.{arith}
+-- `history::replay` meets its contract. The loop's invariant: the first calls of the script ran.
+use Prim.Native.Nat.{ℕ, ◌+◌}
 use native.Mathlib.Numerals.{add-one}
-use mathlib.Core.Path.{◌≡◌, refl, subst}
+use mathlib.Core.Path.{subst}
 use mathlib.Core.List.{List}
-use lib.ListN.{length}
-use borrow.Author.Rules.{rules}
 use Rattle.history.specs.declared.Encoded.{Encoded}
 use Rattle.history.specs.Run.{Step, Run, done}
 use Rattle.history.specs.Script.{call_of, encoded_at, calls_to}
@@ -18,16 +16,11 @@ one_more images codes script i run step = rw (add-one i) (run_then run step)
 
 pub loop-i-init : goal.loop-i-init
 unfolding calls_to
-loop-i-init c = (omega arith, refl, done)
+loop-i-init c = done
 
 pub loop-i-preserved : goal.loop-i-preserved
 loop-i-preserved c =
-    let args = c.args in
-    let images = args.images.now in
-    let codes = args.codes.now in
-    let call = c.encoded_at-call in (
-      omega arith,
-      search rules,
-      one_more images codes args.script.now c.loop-i.i c.loop-i.invariant.2
-          (subst (λ (e : Encoded). Step (call_of images codes e) c.loop-i.store c.step.new.store) call.ensures c.step.ensures),
-    )
+    let images = c.args.images.now in
+    let codes = c.args.codes.now in
+    one_more images codes c.args.script.now c.loop-i.i c.loop-i.invariant
+    (subst (λ (e : Encoded). Step (call_of images codes e) c.loop-i.store c.step.new.store) c.encoded_at.ensures c.step.ensures)

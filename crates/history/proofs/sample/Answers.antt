@@ -1,7 +1,6 @@
 use native.Mathlib.Omega.{arith}
 use lib.ListN.{replicate}
 use Rattle.history.proofs.Whole.{sample_ran}
-use borrow.Author.Rules.{rules}
 use Rattle.history.proofs.sample.Goals as goal
 
 pub returns : goal.returns

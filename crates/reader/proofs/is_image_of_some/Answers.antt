@@ -14,8 +14,11 @@ read_elements-requires c = search (rules, root_can)
 pub returns-in_default : goal.returns-in_default
 returns-in_default c = search (rules, root_wrong)
 
-pub returns-then-next-levels : goal.returns-then-next-levels
-returns-then-next-levels c = search (rules, entries_unread)
+pub returns-then-root-entries : goal.returns-then-root-entries
+returns-then-root-entries c = search (rules, entries_unread)
 
 pub returns : goal.returns
-returns c = let bytes : Bytes c.args.image.now = λ i. omega (arith, c.type_inv.image i) in search (rules, pixels_decide, bytes)
+returns c =
+    let bytes : Bytes c.args.image.now = λ i. omega (arith, c.type_inv.image i) in
+    pixels_decide c.requires c.codes_part.ensures c.levels_part.ensures c.is_entry.ensures c.if-not-is_entry.false c.read_elements.ensures c.in-Some.is bytes
+    c.if-root-entries.false c.count_pixels.ensures c.pixel_number.ensures c.wide.ensures

@@ -6,7 +6,7 @@ use Rattle.rewrite.proofs.form_block.Goals as goal
 
 pub returns : goal.returns
 returns c =
-    block_formed _ _ _ c.in-Taken.is c.take_free.ensures c.requires.0 _ c.wide.ensures _ c.move_run.ensures _ _ c.splice_slot.ensures
+    block_formed _ _ _ c.in-Some.is c.take_free.ensures c.requires.0 _ c.wide.ensures _ c.move_run.ensures _ _ c.splice_slot.ensures
     _ _ _ _ _ _ c.requires.1 c.wide-2.ensures refl c.block_tag.ensures c.slot_part.ensures c.number_of_run-number.ensures
     c.head_slot.ensures
 

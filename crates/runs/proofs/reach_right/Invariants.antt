@@ -1,10 +1,7 @@
-use Prim.Native.Nat.{ℕ, ◌-◌, ◌≤◌, ◌<◌}
+use Prim.Native.Nat.{ℕ, ◌≤◌, ◌<◌}
 use Rattle.elements.specs.Splice.{code_at}
 use Rattle.runs.specs.Run.{Near}
 use Rattle.runs.proofs.reach_right.Given as goal
 
-abbrev pub invariant-loop-right : goal.invariant-loop-right
-invariant-loop-right l = (l.from ≤ l.right) × (l.right ≤ l.count) × ((i : ℕ) → l.from ≤ i → i < l.right → Near l.level l.code (code_at l.part i))
-
-abbrev pub decreases-loop-right : goal.decreases-loop-right
-decreases-loop-right l = l.count - l.right
+abbrev pub invariant-loop-i : goal.invariant-loop-i
+invariant-loop-i l = (j : ℕ) → l.from ≤ j → j < l.i → Near l.level l.code (code_at l.part j)

@@ -6,7 +6,4 @@ use Rattle.sums.specs.Sum.{number_of_elements}
 use Rattle.sums.proofs.number_of_elements.Given as goal
 
 abbrev pub invariant-loop-i : goal.invariant-loop-i
-invariant-loop-i l = (l.i ≤ l.count) × (l.sum ≤ l.i * largest_most) × (l.sum + number_of_elements l.layout l.store (l.count - l.i) (drop (2 * l.i) l.elements) ≡ number_of_elements l.layout l.store l.count l.elements)
-
-abbrev pub decreases-loop-i : goal.decreases-loop-i
-decreases-loop-i l = l.count - l.i
+invariant-loop-i l = (l.sum ≤ l.i * largest_most) × (l.sum + number_of_elements l.layout l.store (l.count - l.i) (drop (2 * l.i) l.elements) ≡ number_of_elements l.layout l.store l.count l.elements)

@@ -1,6 +1,6 @@
 use borrow.Author.Rules.{rules}
-use Rattle.clients.proofs.Readings.{asked_panel, marked_first}
+use Rattle.clients.proofs.Readings.{asked_panel}
 use Rattle.clients.proofs.panel.ask_panel.Goals as goal
 
 pub returns : goal.returns
-returns c = search (rules, asked_panel, marked_first)
+returns c = search (rules, asked_panel)

@@ -1,6 +1,6 @@
 use borrow.Author.Rules.{rules}
-use Rattle.clients.proofs.Readings.{counted_panel, marked_first}
+use Rattle.clients.proofs.Readings.{counted_panel}
 use Rattle.clients.proofs.panel.count_panel.Goals as goal
 
 pub returns : goal.returns
-returns c = search (rules, counted_panel, marked_first)
+returns c = search (rules, counted_panel)

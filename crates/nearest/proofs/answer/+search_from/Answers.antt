@@ -1,9 +1,12 @@
--- `nearest::answer::search_from` meets its contract: arrays with room for all blocks are never full.
-use Rattle.nearest.proofs.Finding.{full_damaged, never_full_lem}
+-- `nearest::answer::search_from` meets its contract: a frontier with room for all blocks is never full.
+use Rattle.nearest.proofs.Finding.{known_ends, damaged_ends, full_damaged}
 use Rattle.nearest.proofs.answer.+search_from.Goals as goal
 
-pub returns-then-needed-keys : goal.returns-then-needed-keys
-returns-then-needed-keys t c = full_damaged c.in-Full.ensures c.if-needed-keys.true
+pub returns-in_err-nearest : goal.returns-in_err-nearest
+returns-in_err-nearest g t c = damaged_ends c.in_err-nearest.ensures _ c.from_residual.ensures.0
 
-pub returns-else-needed-keys : goal.returns-else-needed-keys
-returns-else-needed-keys t c = rw c.never_full.ensures (never_full_lem c.search_from.ensures)
+pub returns-then-needed : goal.returns-then-needed
+returns-then-needed g t c = full_damaged (rw c.in-Full.is at c.in_ok-nearest.ensures) c.if-needed.true
+
+pub returns-in-Known : goal.returns-in-Known
+returns-in-Known g t c = known_ends (rw c.in-Known.is at c.in_ok-nearest.ensures)

@@ -1,15 +1,14 @@
+use Rattle.nearest.proofs.Finding.{known_ends, damaged_ends, full_damaged}
 use native.Mathlib.Omega.{arith}
-use mathlib.Core.Path.{sym, ◌∙◌}
-use Rattle.nearest.proofs.Copying.{goes_on_in}
-use Rattle.nearest.proofs.Finding.{ends}
 use Rattle.nearest.proofs.answer.search_among_many.Goals as goal
 
-pub search-requires : goal.search-requires
-search-requires c =
-    let said = c.requires.0 in
-    let long = c.many_keys-more_keys.ensures in
-    (said.0, said.1, said.2, goes_on_in said.3 c.copy_entries.ensures (omega (arith, long, c.requires.1)) (c.many_tags-more_tags.ensures ∙ sym long))
+pub returns-in_err-nearest : goal.returns-in_err-nearest
+returns-in_err-nearest g c = damaged_ends c.in_err-nearest.ensures _ c.from_residual.ensures.0
 
-pub returns : goal.returns
-returns c =
-    ends c.search.ensures (omega (arith, c.copy_entries.ensures.keys_long, c.many_keys-more_keys.ensures, c.requires.0.0.within.slots_to))
+pub returns-in-Known : goal.returns-in-Known
+returns-in-Known g c = known_ends (rw c.in-Known.is at c.in_ok-nearest.ensures)
+
+pub returns-in-Full : goal.returns-in-Full
+returns-in-Full g c =
+    let laid = c.args.search.now.laid in
+    full_damaged (rw c.in-Full.is at c.in_ok-nearest.ensures) (omega (arith, laid.within.slots_to))

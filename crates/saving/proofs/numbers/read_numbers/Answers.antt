@@ -1,24 +1,33 @@
--- `saving::numbers::read_numbers` meets its contract: each way out is a law of SaidNumbers. Assumes nothing.
-use Rattle.std.proofs.Common.{◌≤◌, arith, rules}
-use Rattle.measures.specs.Words.{blocks_word}
-use Rattle.measures.proofs.Usable.{layout_fits, part_has_head, part_narrow}
+-- `saving::numbers::read_numbers` meets its contract: each way out is a law of SaidNumbers.
+use Rattle.std.proofs.Common.{ap, ◌∙◌, arith, rules}
+use Rattle.measures.specs.Slot.{slot_part}
+use Rattle.measures.proofs.Usable.{part_length}
 use Rattle.saving.proofs.SaidNumbers.{not_opened, too_many_pixels, too_many_blocks, numbers_said}
 use Rattle.saving.proofs.numbers.read_numbers.Goals as goal
 
 pub open_part-requires : goal.open_part-requires
-open_part-requires c = search (rules, part_has_head, part_narrow, layout_fits)
+open_part-requires c = search (rules, part_length)
+
+pub returns-in_err-open_part : goal.returns-in_err-open_part
+returns-in_err-open_part c =
+    let register = c.args.register.now in
+    let slots = c.slots-slots in
+    not_opened register.usable register.said slots.ensures.laid (c.part-root.ensures ∙ ap (λ r. slot_part slots.result.layout.width r.now 0) slots.ensures.same) c.in_err-open_part.was c.open_part.ensures _
+    c.from_residual.ensures.0
+
+pub returns-then-sizes-pixels : goal.returns-then-sizes-pixels
+returns-then-sizes-pixels c =
+    let register = c.args.register.now in
+    let slots = c.slots-slots in
+    too_many_pixels register.usable register.said slots.ensures.laid (c.part-root.ensures ∙ ap (λ r. slot_part slots.result.layout.width r.now 0) slots.ensures.same) c.if-sizes-pixels.true
 
 pub returns-then-layout-wide : goal.returns-then-layout-wide
 returns-then-layout-wide c =
-    too_many_blocks c.requires.0 c.requires.1 c.layout_of-layout.ensures (omega (arith, c.if-layout-wide.true, c.wide.ensures))
+    let register = c.args.register.now in too_many_blocks register.usable register.said c.slots-slots.ensures.laid (omega (arith, c.if-layout-wide.true, c.wide.ensures))
 
 pub returns : goal.returns
 returns c =
-    let within : blocks_word c.args.store.now ≤ c.layout_of-layout.result.slots = omega (arith, c.if-layout-wide.false, c.wide.ensures) in
-    search (rules, numbers_said, within)
-
-pub returns-in_default : goal.returns-in_default
-returns-in_default c = search (rules, not_opened)
-
-pub returns-then-sizes-pixels : goal.returns-then-sizes-pixels
-returns-then-sizes-pixels c = search (rules, too_many_pixels)
+    let register = c.args.register.now in
+    let slots = c.slots-slots in
+    numbers_said register.usable register.said slots.ensures.laid (c.part-root.ensures ∙ ap (λ r. slot_part slots.result.layout.width r.now 0) slots.ensures.same) c.in_ok-open_part.was c.open_part.ensures
+    c.if-sizes-pixels.false (omega (arith, c.if-layout-wide.false, c.wide.ensures))
