@@ -6,8 +6,8 @@ ghost use Rattle.clients.specs.Known.{first_set, HoldsOf9, HoldsFirst, PanelAske
 
 use answers::{Found, Nearest, Place, Refusal, refusal_of};
 
-// 01's first sample panel, marked pixel by pixel.
-fn mark_first(store: &mut [u32])
+// 01's first sample panel, marked pixel by pixel, in any store that is long enough.
+pub fn mark_first(store: &mut [u32])
     requires { 148 ≤ length store.old }
     ensures { HoldsOf9 first_set store.old store.new }
 {

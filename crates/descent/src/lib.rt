@@ -69,7 +69,7 @@ pub struct Passed {
 }
 
 // Room for the path to a block: the levels on it fall, from 16 at most.
-const PATH_LENGTH: usize = 17;
+pub const PATH_LENGTH: usize = 17;
 
 // The blocks that were passed on the way down, root first. How many there are is the depth, which stands outside: so the array
 // vanishes where only the depth is asked for.

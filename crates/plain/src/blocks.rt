@@ -61,6 +61,12 @@ impl Marked {
         self.set[(code % 256) as usize] = marked;
     }
 
+    pub fn mark_all(&mut self, codes: &[u32]) {
+        for code in codes {
+            self.put(*code, true);
+        }
+    }
+
     // How many elements a block has: those of a level 0 block are its pixel if marked, else none; those of a larger block are gathered from its four quarters.
     pub fn elements(&self, level: u32, code: u32) -> u32 {
         if level < 1 {

@@ -155,9 +155,7 @@ impl Marked {
             return Err(Refusal::Numbered(14));
         }
         self.set = [false; 256];
-        for code in codes {
-            self.put(*code, true);
-        }
+        self.mark_all(codes);
         Ok(())
     }
 

@@ -5,7 +5,7 @@ use crate::calls::Refusal;
 use crate::window::{Sought, WHOLE};
 
 // A byte past the end is 0.
-fn byte(image: &[u8], at: usize) -> u8 {
+pub fn byte(image: &[u8], at: usize) -> u8 {
     image.get(at).copied().unwrap_or(0)
 }
 
@@ -25,9 +25,14 @@ pub fn level_of_entry(image: &[u8], entries: u32, i: u32) -> u32 {
     byte(image, 10 + 4 * (entries as usize) + (i as usize)) as u32
 }
 
+// The number of entries that the image states.
+pub fn entry_number(image: &[u8]) -> u32 {
+    number(image, 2)
+}
+
 // The length of the image that starts so.
 pub fn stated_length(image: &[u8]) -> usize {
-    10 + 5 * (number(image, 2) as usize)
+    10 + 5 * (entry_number(image) as usize)
 }
 
 fn has_sizes(panel: Panel, image: &[u8]) -> bool {
@@ -48,7 +53,7 @@ pub fn judge_header(panel: Panel, image: &[u8]) -> Result<(), Refusal> {
 // The codes that stand at level 0: no other set can have these bytes as its image.
 pub fn named(panel: Panel, image: &[u8]) -> Marked {
     let mut marked = Marked::empty(panel);
-    let entries = number(image, 2);
+    let entries = entry_number(image);
     for i in 0..entries {
         if level_of_entry(image, entries, i) == 0 {
             marked.put(code_of_entry(image, i), true);
@@ -86,7 +91,7 @@ impl Marked {
     pub fn is_image(&self, image: &[u8]) -> bool {
         let entries = self.number_of(4) as u32;
         has_sizes(self.panel, image)
-            && number(image, 2) == entries
+            && entry_number(image) == entries
             && number(image, 6) == (self.number_of(0) as u32)
             && self.has_entries(entries, image)
     }
