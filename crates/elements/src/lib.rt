@@ -66,12 +66,11 @@ pub fn find_place(part: &[u32], count: usize, code: u32) -> usize
     requires { (element_index count ≤ length part.now) × (count ≤ most_elements) }
     ensures { PlaceOf part.now count code result }
 {
-    for i in (0..count).rev() {
-        if part[SLOT_HEAD + 2 * i] <= code {
-            return i + 1;
-        }
+    let mut place = count;
+    while 0 < place && code < part[SLOT_HEAD + 2 * place - 2] {
+        place -= 1;
     }
-    0
+    place
 }
 
 // The first element of the run around the code, by the words of elements: of those before `from` that lie in its block of this level.
@@ -80,12 +79,11 @@ pub fn run_start(elements: &[u32], from: usize, code: u32, level: u32) -> usize
     ensures { RunStart elements.now from code level result }
 {
     let block = block_index(code, level);
-    for i in (0..from).rev() {
-        if block_index(elements[2 * i], level) != block {
-            return i + 1;
-        }
+    let mut start = from;
+    while 0 < start && block_index(elements[2 * start - 2], level) == block {
+        start -= 1;
     }
-    0
+    start
 }
 
 // A loop, since a slot has few words: quicker here than `copy_from_slice`.

@@ -1,7 +1,7 @@
 -- The tests that the code makes of a block and a window, against what they decide: the corners of both, on each axis.
 use Prim.Native.Nat.{ℕ, ◌+◌, ◌-◌, ◌^◌, ◌≤◌}
 use native.Mathlib.Omega.{arith}
-use mathlib.Core.Path.{◌≡◌, refl, sym, ◌∙◌}
+use mathlib.Core.Path.{◌≡◌, refl, ap, sym, ◌∙◌}
 use mathlib.Core.Logic.{◌↔◌}
 use mathlib.Core.Bool.{Bool, true, false, ◌&&◌, and-eq-true_iff}
 use lib.Dec.{leb}
@@ -41,13 +41,24 @@ four_exactly a b c d e f g h =
 pub record Decide (first second t : Bool) : Type 0 where
   pub all : (first && second) ≡ t
 
--- the first pair where it fails, and the second where the first does not
-module _ {first second t : Bool} (both : Decide first second t) where
-  pub first_decides : {a : Bool} → a ≡ first → a ≡ false → a ≡ t
-  first_decides e f = f ∙ (rw (sym e ∙ f) at both.all)
+-- one test after another: the second is made where the first holds
+pub record Chained (first second t : Bool) : Type 0 where
+  pub is : t ≡ (first && second)
 
-  pub second_decides : {a r : Bool} → a ≡ first → a ≡ true → r ≡ second → r ≡ t
-  second_decides e f g = g ∙ (rw (sym e ∙ f) at both.all)
+pub second_made : {first second a b t : Bool} → a ≡ first → a ≡ true → b ≡ second → t ≡ b → Chained first second t
+second_made {first} {second} e f g h = record { is = h ∙ g ∙ ap (λ x. x && second) (sym f ∙ e) }
+
+pub second_left : {first a t : Bool} (second : Bool) → a ≡ first → a ≡ false → t ≡ a → Chained first second t
+second_left second e f g = record { is = g ∙ f ∙ ap (λ x. x && second) (sym f ∙ e) }
+
+three_in_a_row : (a b c : Bool) → ((a && b) && c) ≡ (a && (b && c))
+three_in_a_row true b c = refl
+three_in_a_row false b c = refl
+
+-- four tests, one after another, decide what the two pairs do
+pub four_decide : {a b c d pair t v w r : Bool} → Decide (a && b) pair t → (c && d) ≡ pair → Chained a b v → Chained v c w → Chained w d r → r ≡ t
+four_decide {a} {b} {c} {d} both same first second third =
+    third.is ∙ ap (λ x. x && d) (second.is ∙ ap (λ x. x && c) first.is) ∙ three_in_a_row (a && b) c d ∙ ap (λ x. (a && b) && x) same ∙ both.all
 
 -- the code of a block's far corner
 abbrev pub far_code : ℕ → ℕ → ℕ

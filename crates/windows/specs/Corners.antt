@@ -1,5 +1,5 @@
 -- The window of a call as 01's, its part on the panel between two corners given by their codes, and the tests that a walk makes of it.
-use Rattle.std.specs.Prelude.{ℕ, ◌+◌, ◌^◌, ◌≤◌, ◌≡◌, Bool, true, false, ◌&&◌, nat_le, Option, Some, None}
+use Rattle.std.specs.Prelude.{ℕ, ◌+◌, ◌^◌, ◌≤◌, ◌≡◌, Bool, true, false, Option, Some, None}
 use Rattle.morton.specs.Code.{x_of, y_of}
 use Rattle.pktree.specs.Panel.{Panel, Aligned}
 use Rattle.pktree.specs.Elements.{Forest}
@@ -42,10 +42,6 @@ pub record OnGrid (level code : ℕ) : Type 0 where
 
 pub record PixelTested (corners : Corners) (code : ℕ) (r : Bool) : Type 0 where
   pub says : Ordered (window_between corners) → r ≡ in_window (window_between corners) code
-
--- one pixel lies neither right of another nor above it
-abbrev pub BothAtMost : ℕ → ℕ → Bool → Type 0
-BothAtMost a b r = r ≡ (nat_le (x_of a) (x_of b) && nat_le (y_of a) (y_of b))
 
 pub record SharingTested (corners : Corners) (level code : ℕ) (r : Bool) : Type 0 where
   pub says : OnGrid level code → Ordered (window_between corners) → (es : Forest) → r ≡ shares_pixel (window_between corners) (block_of level code es)

@@ -2,7 +2,7 @@
 #![tactic(auto)]
 
 ghost use Rattle.measures.specs.Sizes.{ValidSizes, panel_of};
-ghost use Rattle.windows.specs.Corners.{window_of, PartOf, BothAtMost, PixelTested, SharingTested, InsideTested, LyingTested, PanelTested};
+ghost use Rattle.windows.specs.Corners.{window_of, PartOf, PixelTested, SharingTested, InsideTested, LyingTested, PanelTested};
 
 use measures::sizes::Sizes;
 use morton::{X, Y, at_most, between, last_code};
@@ -50,25 +50,26 @@ pub fn has_pixel(corners: Corners, code: u32) -> bool
         && between::<Y>(corners.first, corners.last, code)
 }
 
-// Whether a pixel lies neither right of another nor above it.
-fn both_at_most(a: u32, b: u32) -> bool
-    ensures { BothAtMost a b result }
-{
-    at_most::<X>(a, b) && at_most::<Y>(a, b)
-}
-
 // A block shares a pixel with the window where each begins before the other ends, on both axes.
 pub fn meets(corners: Corners, level: u32, code: u32) -> bool
     ensures { SharingTested corners level code result }
 {
-    both_at_most(code, corners.last) && both_at_most(corners.first, last_code(code, level))
+    let last = last_code(code, level);
+    at_most::<X>(code, corners.last)
+        && at_most::<Y>(code, corners.last)
+        && at_most::<X>(corners.first, last)
+        && at_most::<Y>(corners.first, last)
 }
 
 // 02, P4: a block lies wholly inside the window where its lowest and its highest pixel do.
 pub fn lies_inside(corners: Corners, level: u32, code: u32) -> bool
     ensures { InsideTested corners level code result }
 {
-    both_at_most(corners.first, code) && both_at_most(last_code(code, level), corners.last)
+    let last = last_code(code, level);
+    at_most::<X>(corners.first, code)
+        && at_most::<Y>(corners.first, code)
+        && at_most::<X>(last, corners.last)
+        && at_most::<Y>(last, corners.last)
 }
 
 // How a block lies to the window.

@@ -1,20 +1,31 @@
 -- `windows::lies_inside` meets its contract: the block begins and ends in the window.
 use Prim.Native.Nat.{ℕ}
-use mathlib.Core.Path.{ap, ◌∙◌}
+use mathlib.Core.Path.{refl, ap}
 use mathlib.Core.Bool.{◌&&◌}
 use lib.Dec.{leb}
 use Rattle.morton.specs.Code.{x_of, y_of}
-use Rattle.windows.proofs.WindowTests.{first_decides, second_decides, inside_by_corners}
+use Rattle.windows.proofs.WindowTests.{Chained, second_made, second_left, four_decide, inside_by_corners}
 use Rattle.windows.proofs.lies_inside.Goals as goal
+use Rattle.windows.proofs.lies_inside.Goals.{then-at_most, else-at_most, then-at_most-2, else-at_most-2}
 
-pub returns-then-both_at_most : goal.returns-then-both_at_most
-returns-then-both_at_most c =
+pub returns-then-at_most-3 : goal.returns-then-at_most-3
+returns-then-at_most-3 c =
     record {
       says = λ on es.
-          let far = c.last_code.ensures.is on.level_from on.level_to on.ends in
+          let far = c.last_code-last.ensures.is on.level_from on.level_to on.ends in
           let ends = λ (n : ℕ). leb (x_of n) (x_of c.args.corners.last) && leb (y_of n) (y_of c.args.corners.last) in
-          second_decides (inside_by_corners _ on es) c.both_at_most.ensures c.if-both_at_most.true (c.both_at_most-then-both_at_most.ensures ∙ ap ends far);
+          let second : Chained _ _ c.if-at_most.value = elim c.if-at_most.branch [ then-at_most w ↦ second_made c.at_most.ensures w.if-at_most.true w.at_most-then-at_most.ensures w.value-is | else-at_most w ↦ second_left _ c.at_most.ensures w.if-at_most.false w.value-is ] in
+          let third : Chained _ _ c.if-at_most-2.value = elim c.if-at_most-2.branch [ then-at_most-2 w ↦ second_made refl w.if-at_most-2.true w.at_most-then-at_most-2.ensures w.value-is | else-at_most-2 w ↦ second_left _ refl w.if-at_most-2.false w.value-is ] in
+          four_decide (inside_by_corners _ on es) (ap ends far) second third (second_made refl c.if-at_most-3.true c.at_most-then-at_most-3.ensures refl);
     }
 
-pub returns-else-both_at_most : goal.returns-else-both_at_most
-returns-else-both_at_most c = record { says = λ on es. first_decides (inside_by_corners _ on es) c.both_at_most.ensures c.if-both_at_most.false }
+pub returns-else-at_most-3 : goal.returns-else-at_most-3
+returns-else-at_most-3 c =
+    record {
+      says = λ on es.
+          let far = c.last_code-last.ensures.is on.level_from on.level_to on.ends in
+          let ends = λ (n : ℕ). leb (x_of n) (x_of c.args.corners.last) && leb (y_of n) (y_of c.args.corners.last) in
+          let second : Chained _ _ c.if-at_most.value = elim c.if-at_most.branch [ then-at_most w ↦ second_made c.at_most.ensures w.if-at_most.true w.at_most-then-at_most.ensures w.value-is | else-at_most w ↦ second_left _ c.at_most.ensures w.if-at_most.false w.value-is ] in
+          let third : Chained _ _ c.if-at_most-2.value = elim c.if-at_most-2.branch [ then-at_most-2 w ↦ second_made refl w.if-at_most-2.true w.at_most-then-at_most-2.ensures w.value-is | else-at_most-2 w ↦ second_left _ refl w.if-at_most-2.false w.value-is ] in
+          four_decide (inside_by_corners _ on es) (ap ends far) second third (second_left _ refl c.if-at_most-3.false refl);
+    }
