@@ -37,7 +37,7 @@ use Rattle.std.specs.Prelude.{Result, Ok, Err}
 use Rattle.store.specs.declared.Damaged.{Damaged}
 use Rattle.query.proofs.Opens.{list_opens}
 use Rattle.query.proofs.WholeTree.{whole_tree}
-use Rattle.query.proofs.RootCount.{part_range, AnswersIn, of_root, root_ends, walk_tested, root_found, part_between, part_empty, part_counted_lem}
+use Rattle.query.proofs.RootCount.{part_range, AnswersIn, of_root, root_ends, root_tested, root_found, part_between, part_empty, part_counted_lem}
 use Rattle.collecting.specs.Listing.{written_at, Lists, BlockListed, RootListed}
 use Rattle.listing.specs.Counted.{CountedBefore}
 use Rattle.collecting.proofs.WrittenAt.{written_front}
@@ -133,6 +133,10 @@ module _ (words : List ℕ) {sizes : Sizes} (corners : Corners) (usable : Usable
   rest_same : drop n after ≡ drop n before
   rest_same = subst (λ (i : ℕ). drop i after ≡ drop i before) wide (ap (drop w) here.is ∙ drop_at here.part (drop w before) w part_long)
 
+  -- 02, P4: on a sound store it answers a sum, and tests singly the elements of the opened blocks that are not wholly inside
+  pub list_tested : {set : List ℕ} → Holds words set → (sum : Sum) × (o ≡ Ok sum) × (sum.tested ≡ tested_by_window (window_between corners) (tree (panel_of (sizes_of words)) (member set)))
+  list_tested = root_tested (list_opens (window_between corners)) between low (root_counts here)
+
   -- a walk that broke off met damage
   pub not_walked : {d : Damaged} → o ≡ Err d → calls.ListsIn words (window_between corners) (effect (refused 13) before after)
   not_walked {d} e =
@@ -146,10 +150,6 @@ module _ (words : List ℕ) {sizes : Sizes} (corners : Corners) (usable : Usable
   module _ {sum : Sum} (e : o ≡ Ok sum) where
     block : BlockListed (part_range (layout_of (sizes_of words)) (sizes_of words) corners) words level_above_root 0 (sizes_of words).order 0 (take w before) here.part (0, 0, 0) (numbers_of sum) done
     block = subst (RootCase (BlockListed (part_range (layout_of (sizes_of words)) (sizes_of words) corners) words level_above_root 0 (sizes_of words).order 0 (take w before) here.part (0, 0, 0))) e here.case
-
-    -- 02, P4: on a sound store it tests singly the elements of the opened blocks that are not wholly inside
-    pub list_tested : {set : List ℕ} → Holds words set → sum.tested ≡ tested_by_window (window_between corners) (tree (panel_of (sizes_of words)) (member set))
-    list_tested = walk_tested (list_opens (window_between corners)) between low (block_counts block)
 
     all_wrote : {set : List ℕ} → Holds words set → after ≡ written_at before 0 (found (window_between corners) set)
     all_wrote {set} holds =

@@ -104,12 +104,17 @@ module _ {opens : tree.Window → Forest → ℕ} {words : List ℕ} {window : t
             absurd (omega (arith, h.1 (omega (arith, s.2, ap (λ (t : ℕ × ℕ × ℕ). t.0) is)), s.3, ap (λ (t : ℕ × ℕ × ℕ). t.1) is));
       }
 
--- so of the sum that the walk from the root answers
-pub root_tested : {opens : tree.Window → Forest → ℕ} {words : List ℕ} {window : tree.Window} {corners : Corners} {sum : Sum} (o : Opens opens (window_between corners))
+-- so of whatever the walk from the root answers: on a sound store it is a sum
+pub root_tested : {opens : tree.Window → Forest → ℕ} {words : List ℕ} {window : tree.Window} {corners : Corners} {r : Result Sum Damaged} (o : Opens opens (window_between corners))
     (between : PartBetween (panel_of (sizes_of words)) window corners) (within : LayoutWithin (layout_of (sizes_of words)))
-    → RootCounted opens (part_range (layout_of (sizes_of words)) (sizes_of words) corners) words (sizes_of words).order (Ok sum)
-    → {set : List ℕ} → Holds words set → sum.tested ≡ tested_by_window (window_between corners) (setTree (panel_of (sizes_of words)) (member set))
-root_tested o between within root holds = walk_tested o between within root.case holds
+    → RootCounted opens (part_range (layout_of (sizes_of words)) (sizes_of words) corners) words (sizes_of words).order r
+    → {set : List ℕ} → Holds words set → (sum : Sum) × (r ≡ Ok sum) × (sum.tested ≡ tested_by_window (window_between corners) (setTree (panel_of (sizes_of words)) (member set)))
+root_tested {opens} {words} {corners = corners} {r = r} o between within root {set} holds = go r root.case
+  where
+    go : (r : Result Sum Damaged) → RootCase (BlockCounted opens (part_range (layout_of (sizes_of words)) (sizes_of words) corners) words level_above_root 0 (sizes_of words).order 0 (0, 0, 0)) r
+        → (sum : Sum) × (r ≡ Ok sum) × (sum.tested ≡ tested_by_window (window_between corners) (setTree (panel_of (sizes_of words)) (member set)))
+    go (Ok sum) case = (sum, refl, walk_tested o between within case holds)
+    go (Err _) case = absurd (not_done refl (root_ends o between within case.1 holds))
 
 -- the part of a part is itself
 part_again : (panel : Panel) (window : tree.Window) → part_on panel window ≡ part_on panel (part_on panel window)

@@ -16,7 +16,7 @@ use Rattle.elements.specs.Element.{element_at, named}
 use Rattle.measures.specs.Layout.{LayoutFits}
 use Rattle.measures.specs.declared.sizes.Layout.{Layout}
 use Rattle.walks.specs.Entered.{Entered}
-use Rattle.walks.proofs.Walks.{Walk, ElementWalked, ElementBroken, InLoop, walked_child, broken_child, never_barred, loop_inside, loop_breaks, loop_open}
+use Rattle.walks.proofs.Walks.{Walk, BlockWalked, ElementWalked, ElementBroken, InLoop, walked_child, broken_child, not_entered, loop_inside, loop_breaks, loop_open}
 use Rattle.image.specs.Writing.{put_entry}
 use Rattle.saving.specs.declared.Progress.{Progress}
 use Rattle.saving.specs.Saving.{Places, CanSave, PixelPut, RoomFor, EntriesPut, EntriesPutTo, Ending, done, broken, BlockSaved}
@@ -128,27 +128,25 @@ left_falls h = ⊎_elim (λ less. omega (arith, less)) (λ stopped. rw stopped.0
 no_room_puts : {r : Ending} {saving : Places} {s t : List ℕ × ℕ × ℕ} {f : Forest} → (RoomFor saving s f → ⊥) → EntriesPutTo r saving s f t
 no_room_puts never = record { put = record { says = λ room. absurd (never room) }; ends = λ room. absurd (never room) }
 
-module _ {saving : Places} {words : List ℕ} {above slot level code at left : ℕ} {before : List ℕ} where
-  -- as many blocks as were said are entered
-  pub save_spent : left < 1 → BlockSaved saving words above slot level code (before, at, left) (before, at, left) broken
-  save_spent spent =
-      record { right = record { right = λ k es low view. no_room_puts (λ room. omega (arith, spent, room.few)) }; long = refl; closed = λ shut. refl; lowers = inr (refl, refl) }
+module _ {saving : Places} {words : List ℕ} {above slot level code at left next last : ℕ} {before : List ℕ} (stopped : (next ≡ saving.entries + 1) × (last ≡ 0)) where
+  -- the block is not entered
+  not_saved : BlockWalked (EntriesPutTo broken saving) saving.layout words above slot level code (before, at, left) (before, next, last)
+      → BlockSaved saving words above slot level code (before, at, left) (before, next, last) broken
+  not_saved walked = record { right = walked; long = refl; closed = λ shut. (omega (arith, stopped.0), refl); lowers = inr (rw (stopped.0, stopped.1) refl, refl) }
 
-  pub save_barred : {o : Result ℕ Damaged} {d : Damaged} → o ≡ Err d → Entered saving.layout words above slot level code o → LayoutFits saving.layout words → (r : Ending) → IsErr r
-      → BlockSaved saving words above slot level code (before, at, left) (before, at, left) r
-  save_barred e entered fits r h =
-      rw (is_broken r h) (record {
-        right = record { right = λ k es low view. absurd (never_barred e entered fits low view) };
-        long = refl;
-        closed = λ shut. refl;
-        lowers = inr (refl, refl);
-      })
+  -- as many blocks as were said are entered
+  pub save_spent : left < 1 → BlockSaved saving words above slot level code (before, at, left) (before, next, last) broken
+  save_spent spent = not_saved (record { right = λ k es low view. no_room_puts (λ room. omega (arith, spent, room.few)) })
+
+  pub save_barred : {o : Result ℕ Damaged} → o ≡ damaged → Entered saving.layout words above slot level code o → LayoutFits saving.layout words
+      → BlockSaved saving words above slot level code (before, at, left) (before, next, last) broken
+  save_barred e entered fits = not_saved (not_entered e entered fits)
 
   -- even the own entry has no room
-  pub save_full : saving.entries ≤ at → BlockSaved saving words above slot level code (before, at, left) (before, at, left) broken
-  save_full full =
-      record { right = record { right = λ k es low view. no_room_puts (λ room. omega (arith, full, room.room)) }; long = refl; closed = λ shut. refl; lowers = inr (refl, refl) }
+  pub save_full : saving.entries ≤ at → BlockSaved saving words above slot level code (before, at, left) (before, next, last) broken
+  save_full full = not_saved (record { right = λ k es low view. no_room_puts (λ room. omega (arith, full, room.room)) })
 
+module _ {saving : Places} {words : List ℕ} {above slot level code at left : ℕ} {before : List ℕ} where
   module _ {count i : ℕ} {part own : List ℕ} {t : List ℕ × ℕ × ℕ} (some : 1 ≤ left) (put : own ≡ put_entry saving.entries at before level code)
       (to : InLoop (EntriesPut saving) saving.layout words above slot level code count part i (own, at + 1, left - 1) t) where
     pub save_broken : {element : Element} {u : List ℕ × ℕ × ℕ} → i < count → element ≡ element_at part i → ElementBroken (RoomFor saving t) saving.layout words level element
@@ -159,7 +157,7 @@ module _ {saving : Places} {words : List ℕ} {above slot level code at left : �
             right = λ k es low view. no_room_puts (λ room. loop_breaks to (RoomFor saving (own, at + 1, left - 1)) (RoomFor saving t) below is room_between broke k es view (room_within room));
           };
           long = long ∙ ap length put ∙ length_put_entry saving.entries at before level code;
-          closed = λ shut. refl;
+          closed = λ shut. absurd (loop_open to shut);
           lowers = inl (omega (arith, some, few));
         })
 

@@ -62,9 +62,9 @@ pub record EntriesPutTo (r : Ending) (saving : Places) (s : List ℕ × ℕ × �
 pub record BlockSaved (saving : Places) (words : List ℕ) (above slot level code : ℕ) (s t : List ℕ × ℕ × ℕ) (r : Ending) : Type 0 where
   pub right : BlockWalked (EntriesPutTo r saving) saving.layout words above slot level code s t
   pub long : length t.0 ≡ length s.0
-  pub closed : CannotOpen saving.layout.width words slot level code → r ≡ broken
-  -- whatever the words are: a block that is entered lowers the number of those that may be; else nothing is written, and the walk breaks off
-  pub lowers : (t.2 < s.2) ⊎ ((t ≡ s) × (r ≡ broken))
+  pub closed : CannotOpen saving.layout.width words slot level code → (saving.entries < t.1) × (r ≡ broken)
+  -- whatever the words are: a block that is entered lowers the number of those that may be; else nothing is written, no further block is entered, and the walk breaks off
+  pub lowers : (t.2 < s.2) ⊎ ((t ≡ (s.0, saving.entries + 1, 0)) × (r ≡ broken))
 
 -- the index past the last entry, where the walk came to its end
 abbrev pub EndingSaid : ℕ → Ending → Result ℕ Damaged → Type 0

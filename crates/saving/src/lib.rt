@@ -1,7 +1,7 @@
 // Saving: a walk over every block, which writes the image. Its length is known before: 01's refusal 9 leaves the output as it was.
 #![tactic(auto)]
 
-ghost use Rattle.std.specs.Prelude.{◌+◌, ◌*◌, ◌<◌, ◌≤◌, length};
+ghost use Rattle.std.specs.Prelude.{◌≡◌, ◌+◌, ◌*◌, ◌<◌, ◌≤◌, length};
 ghost use Rattle.saving.specs.Saving.{PixelPut, CanSave, BlockSaved, ImageWritten, FrontWritten, places_of, reached};
 ghost use Rattle.promises.specs.Effect.{effect};
 ghost use Rattle.promises.specs.Calls.{Saves};
@@ -46,8 +46,18 @@ fn save_pixel(output: &mut [u8], entries: usize, at: usize, code: u32) -> Result
     Ok(at + 1)
 }
 
+// No further block is entered, and the next index is past the last entry.
+fn stop(entries: usize, progress: &mut Progress) -> Damaged
+    requires { entries + 1 < 18446744073709551616 }
+    ensures { (progress.new.next ≡ entries + 1) × (progress.new.left ≡ 0) }
+{
+    progress.next = entries + 1;
+    progress.left = 0;
+    Damaged
+}
+
 // The entries of the block in this slot, an element of a block of level `above`: its own, then those of its elements.
-// Whatever the words are, no more than `left` slots are opened: each block that is entered lowers it, and one that is not ends the walk.
+// Whatever the words are, no more than `left` slots are opened: each block that is entered lowers it, and after one that is not it is 0.
 fn save_block(
     saving: &ImageWalk,
     above: u32,
@@ -62,13 +72,15 @@ fn save_block(
 {
     let entries = saving.entries;
     if progress.left < 1 {
-        return Err(Damaged);
+        return Err(stop(entries, progress));
     }
     let block = Block { slot, level, code };
-    let count = enter(&saving.slots, above, block)?;
+    let Ok(count) = enter(&saving.slots, above, block) else {
+        return Err(stop(entries, progress));
+    };
     let at = progress.next;
     if entries <= at {
-        return Err(Damaged);
+        return Err(stop(entries, progress));
     }
     let part = saving.slots.part(wide(slot));
     put_entry(output, entries, at, level, code);

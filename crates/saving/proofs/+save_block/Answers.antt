@@ -1,19 +1,19 @@
 -- `saving::save_block` meets its contract: each way through the match is one of the laws of a save's turn.
-use Rattle.std.proofs.Common.{length, ap, ◌∙◌, arith}
+use Rattle.std.proofs.Common.{length, ap, ◌∙◌, arith, rules}
 use Rattle.walks.proofs.Walks.{turns_pixel, loop_turns}
 use Rattle.saving.specs.Saving.{reached}
 use Rattle.saving.proofs.Saves.{save_walk, written_is, pixel_saved, pixel_broken, block_saved, block_broken, left_falls, save_barred, save_broken, save_whole}
 use Rattle.saving.proofs.+save_block.Goals as goal
 use Rattle.saving.proofs.+save_block.Goals.{in-Pixel+in_ok-next-in-Pixel, in-Block+in_ok-save_block-in-Block}
 
-pub returns-in_err-count : goal.returns-in_err-count
-returns-in_err-count t c = save_barred c.in_err-count.was c.enter.ensures c.args.saving.now.slots.fits _ c.from_residual.ensures.0
+pub returns-in_default : goal.returns-in_default
+returns-in_default t c = search (rules, save_barred)
 
 pub returns-in_err-next-in-Pixel : goal.returns-in_err-next-in-Pixel
 returns-in_err-next-in-Pixel t c =
     let l = c.loop-i.invariant in
     save_broken c.if-progress-lt1.false c.put_entry.ensures l.0 {u = reached c.save_pixel.new.output c.loop-i.progress} c.loop-i-test.true c.element_at.ensures (pixel_broken c.save_pixel.ensures c.in_err-next-in-Pixel.was c.in-Pixel.is)
-    (c.save_pixel.ensures.long ∙ l.2) l.3 _ c.from_residual-in_err-next-in-Pixel.ensures.0
+    (c.save_pixel.ensures.long ∙ l.2) l.3 _ c.from_residual.ensures.0
 
 pub returns-in_err-save_block-in-Block : goal.returns-in_err-save_block-in-Block
 returns-in_err-save_block-in-Block t c =
