@@ -1,5 +1,5 @@
 -- The entries of two arrays and the heap that they are; one entry more, and the least of them taken out.
-use Rattle.std.specs.Prelude.{ℕ, zero, suc, ◌+◌, ◌-◌, ◌/◌, ◌≤◌, ◌<◌, ◌≡◌, List, [], ◌∷◌, get_or}
+use Rattle.std.specs.Prelude.{ℕ, zero, suc, ◌+◌, ◌-◌, ◌/◌, ◌≤◌, ◌<◌, ◌≡◌, List, [], ◌∷◌, length, get_or}
 use Rattle.pktree.specs.Lists.{Every, total}
 use Rattle.frontier.specs.declared.Entry.{Entry}
 
@@ -26,3 +26,18 @@ pub record Pushed (before after : List Entry) (e : Entry) : Type 0 where
 pub record Taken (before after : List Entry) (r : Entry) : Type 0 where
   pub one_less : (number : Entry → ℕ) → total number before ≡ number r + total number after
   pub least : Every (λ (e : Entry). r.key ≤ e.key) before
+
+-- the first `count` entries of two arrays and one more: as `Pushed` of their entries, a heap again, and each array of the same length
+pub record PushedInArrays (keys tags keys' tags' : List ℕ) (count key tag : ℕ) : Type 0 where
+  pub one_more : (number : Entry → ℕ) → total number (queued keys' tags' (suc count)) ≡ number (entry key tag) + total number (queued keys tags count)
+  pub heap : Heap keys' (suc count)
+  pub keys_long : length keys' ≡ length keys
+  pub tags_long : length tags' ≡ length tags
+
+-- the first `count` entries of two arrays without r: as `Taken` of their entries, a heap again, and each array of the same length
+pub record TakenFromArrays (keys tags keys' tags' : List ℕ) (count : ℕ) (r : Entry) : Type 0 where
+  pub one_less : (number : Entry → ℕ) → total number (queued keys tags count) ≡ number r + total number (queued keys' tags' (count - 1))
+  pub least : Every (λ (e : Entry). r.key ≤ e.key) (queued keys tags count)
+  pub heap : Heap keys' (count - 1)
+  pub keys_long : length keys' ≡ length keys
+  pub tags_long : length tags' ≡ length tags

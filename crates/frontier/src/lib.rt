@@ -1,10 +1,11 @@
 // The blocks that a search has met and not opened, as a binary heap. Each has a key, by which the least is taken, and a tag, which says
-// what it is. Above the place i stands (i - 1) / 2.
+// what it is. Above the place i stands (i - 1) / 2. A `Frontier` owns the two arrays of its heap; the functions `push` and `take_least` work
+// on two arrays of the caller.
 #![tactic(auto)]
 
 ghost use Rattle.std.specs.Prelude.{suc, ◌/◌, ◌≤◌, ◌<◌, ◌≡◌, List, [], ◌∷◌, ◌++◌, length, drop};
 ghost use Rattle.frontier.specs.declared.Entry.{Entry};
-ghost use Rattle.frontier.specs.Entries.{Heap, queued, Pushed, Taken};
+ghost use Rattle.frontier.specs.Entries.{Heap, queued, Pushed, Taken, PushedInArrays, TakenFromArrays};
 ghost use Rattle.frontier.specs.Holes.{Lesser, Sifted};
 
 use std::marker::Model;
@@ -80,9 +81,8 @@ impl<const N: usize> Frontier<N> {
         ensures { Pushed self.old self.new entry }
     {
         let count = self.count;
-        let i = sift_up(&mut self.keys, &mut self.tags, count, entry.key);
-        self.keys[i] = entry.key;
-        self.tags[i] = entry.tag;
+        let Entry { key, tag } = entry;
+        push(&mut self.keys, &mut self.tags, count, key, tag);
         self.count = count + 1;
     }
 
@@ -91,20 +91,9 @@ impl<const N: usize> Frontier<N> {
         requires { 1 ≤ length self.old }
         ensures { Taken self.old self.new result }
     {
-        let least = Entry {
-            key: self.keys[0],
-            tag: self.tags[0],
-        };
-        let last = self.count - 1;
-        // the last entry goes where the least stood, unless it is that one
-        if 0 < last {
-            let key = self.keys[last];
-            let tag = self.tags[last];
-            let i = sift_down(&mut self.keys, &mut self.tags, last, key);
-            self.keys[i] = key;
-            self.tags[i] = tag;
-        }
-        self.count = last;
+        let count = self.count;
+        let least = take_least(&mut self.keys, &mut self.tags, count);
+        self.count = count - 1;
         least
     }
 }
@@ -115,6 +104,37 @@ fn copy_front<T: Copy>(from: &[T], to: &mut [T])
     ensures { to.new ≡ from.now ++ drop (length from.now) to.old }
 {
     to[..from.len()].copy_from_slice(from);
+}
+
+// Adds an entry to a heap of `count` entries.
+pub fn push(keys: &mut [u64], tags: &mut [u32], count: usize, key: u64, tag: u32)
+    requires { (count < length keys.old) × (count < length tags.old) × Heap keys.old count }
+    ensures { PushedInArrays keys.old tags.old keys.new tags.new count key tag }
+{
+    let i = sift_up(keys, tags, count, key);
+    keys[i] = key;
+    tags[i] = tag;
+}
+
+// Takes the entry of the lowest key out of a heap of `count` entries.
+pub fn take_least(keys: &mut [u64], tags: &mut [u32], count: usize) -> Entry
+    requires { (1 ≤ count) × (count ≤ length keys.old) × (count ≤ length tags.old) × Heap keys.old count }
+    ensures { TakenFromArrays keys.old tags.old keys.new tags.new count result }
+{
+    let least = Entry {
+        key: keys[0],
+        tag: tags[0],
+    };
+    let last = count - 1;
+    // the last entry goes where the least stood, unless it is that one
+    if 0 < last {
+        let key = keys[last];
+        let tag = tags[last];
+        let i = sift_down(keys, tags, last, key);
+        keys[i] = key;
+        tags[i] = tag;
+    }
+    least
 }
 
 // The place for a key among so many entries and one more: the entries of higher keys on the way up from the last place move down.
