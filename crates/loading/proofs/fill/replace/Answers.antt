@@ -12,7 +12,7 @@ use Rattle.loading.proofs.fill.replace.Goals as goal
 
 pub build_with-requires : goal.build_with-requires
 build_with-requires c =
-    let every = YieldsList-from_range 0 (length c.args.levels.now) (length c.args.levels.now) c.filter_map-pixels.ensures.source (omega arith) in
+    let every = YieldsList-from_range 0 _ (length c.args.levels.now) c.filter_map-pixels.ensures.source (omega arith) in
     let pixel = λ (i : ℕ). pixel_of (entry_at c.args.codes.now c.args.levels.now i) in
     record {
       can = (tt, tt, serves_from_Range (λ x q k. search rules) (λ x from below. search rules));
@@ -29,7 +29,7 @@ build_with-requires c =
 
 pub returns : goal.returns
 returns c =
-    let every = YieldsList-from_range 0 (length c.args.levels.now) (length c.args.levels.now) c.filter_map-pixels.ensures.source (omega arith) in
+    let every = YieldsList-from_range 0 _ (length c.args.levels.now) c.filter_map-pixels.ensures.source (omega arith) in
     let pixel = λ (i : ℕ). pixel_of (entry_at c.args.codes.now c.args.levels.now i) in
     c.build_with.ensures.right (pixels_given c.args.codes.now c.args.levels.now)
     (given_at c.requires c.empty_stack-stack.ensures c.of.ensures
